@@ -1,0 +1,3 @@
+pub mod IntType
+pub mod Laws
+pub mod Operators

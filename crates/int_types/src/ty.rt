@@ -1,0 +1,134 @@
+ghost use Rattle.std.specs.Prelude.{◌≡◌, ◌⊎◌, ◌↔◌, IsSome, IfSome};
+ghost use Rattle.int_types.specs.IntType.{IntType, IsType, IsCellSize};
+ghost use Rattle.int_types.specs.Operators.{int32, promoted, wider, common_of, PromotesInto, literal_of};
+
+use std::marker::Model;
+
+/// An integer type: `intN` with N from 2 to 64, or `uintN` with N from 1 to 64.
+#[derive(Clone, Copy, Debug, PartialEq, Eq)]
+pub struct Ty {
+    signed: bool,
+    bits: u8,
+}
+
+impl Model for Ty {
+    ghost use Rattle.int_types.specs.IntType.{IntType, IsType};
+
+    ghost Value = { IntType };
+
+    ghost view = { λ t. record { signed = t.signed; bits = t.bits } };
+
+    ghost invariant = { λ t. IsType (record { signed = t.signed; bits = t.bits }) };
+
+    ghost inverse = { λ t. record { signed = t.signed; bits = t.bits } };
+}
+
+impl Ty {
+    /// The type of this sign and this width in bits. `None` exactly where `bits` is 0, is above 64, or is 1 with `signed`.
+    pub fn new(signed: bool, bits: u8) -> Option<Ty>
+        ensures some { IsSome result ↔ IsType (record { signed = signed; bits = bits }) }
+        ensures value { IfSome result (λ t. t ≡ record { signed = signed; bits = bits }) }
+    {
+        if bits == 0 || bits > 64 || signed && bits == 1 {
+            None
+        } else {
+            Some(Ty { signed, bits })
+        }
+    }
+
+    /// Whether the type has numbers below 0.
+    pub fn signed(self) -> bool
+        ensures value { result ≡ self.signed }
+        ensures valid { IsType self }
+    {
+        self.signed
+    }
+
+    /// The width, from 1 to 64 bits.
+    pub fn bits(self) -> u8
+        ensures value { result ≡ self.bits }
+        ensures valid { IsType self }
+    {
+        self.bits
+    }
+}
+
+/// The signed type of 32 bits.
+pub fn int32() -> Ty
+    ensures { result ≡ int32 }
+{
+    Ty {
+        signed: true,
+        bits: 32,
+    }
+}
+
+/// The type in which an operator computes on operands of this type: a width below 32 bits gives int32, and any other type
+/// stays.
+pub fn promote(ty: Ty) -> Ty
+    ensures { result ≡ promoted ty }
+{
+    if ty.bits() < 32 { int32() } else { ty }
+}
+
+// The wider of two types, and at equal widths the unsigned one, if either is unsigned.
+fn wider(a: Ty, b: Ty) -> Ty
+    ensures { result ≡ wider a b }
+{
+    if a.bits() < b.bits() {
+        b
+    } else if b.bits() < a.bits() {
+        a
+    } else if a.signed() {
+        b
+    } else {
+        a
+    }
+}
+
+/// The common type of two operands: the wider of the two promoted types, and at equal widths the unsigned one, if either is
+/// unsigned. The order of the two doesn't matter.
+pub fn common(a: Ty, b: Ty) -> Ty
+    ensures value { result ≡ common_of a b }
+    ensures symmetric { result ≡ common_of b a }
+    ensures left { PromotesInto a result }
+    ensures right { PromotesInto b result }
+    ensures one { (result ≡ promoted a) ⊎ (result ≡ promoted b) }
+{
+    wider(promote(a), promote(b))
+}
+
+/// The type of a literal: int32 below 2^31, int64 below 2^63, else uint64.
+pub fn literal_type(v: u64) -> Ty
+    ensures { result ≡ literal_of v }
+{
+    if v < 1 << 31 {
+        int32()
+    } else if v < 1 << 63 {
+        Ty {
+            signed: true,
+            bits: 64,
+        }
+    } else {
+        Ty {
+            signed: false,
+            bits: 64,
+        }
+    }
+}
+
+/// The bytes of a cell of this type: the least of 1, 2, 4 and 8 that holds the width.
+pub fn cell_bytes(ty: Ty) -> u8
+    ensures { IsCellSize ty result }
+{
+    let bits = ty.bits();
+    if bits <= 8 {
+        1
+    } else if bits <= 16 {
+        2
+    } else if bits <= 32 {
+        4
+    } else {
+        8
+    }
+}
