@@ -21,3 +21,6 @@ pub use mem_sink::MemSink;
 pub use real::{RealFiles, StdSink};
 pub use role::FileRole;
 pub use sink::Sink;
+
+#[cfg(test)]
+mod tests;

@@ -180,26 +180,14 @@ impl Files for MemFiles {
             || !held::is_held(&self.files, name)
         {
             raise(&mut self.faults);
-            log(
-                &mut self.calls,
-                FileCall::Open {
-                    name: entry,
-                    id: None,
-                },
-            );
+            log(&mut self.calls, FileCall::open(entry, None));
             return Err(IoErr::Failed);
         }
         match self.ids.push(fresh) {
             Ok(()) => {}
             Err(_) => unreachable!(),
         }
-        log(
-            &mut self.calls,
-            FileCall::Open {
-                name: entry,
-                id: Some(id as u32),
-            },
-        );
+        log(&mut self.calls, FileCall::open(entry, Some(id as u32)));
         Ok(id as u32)
     }
 
@@ -230,13 +218,7 @@ impl Files for MemFiles {
         let id = self.ids.len();
         if id >= MOST_IDS || is_listed(&self.fails, self.calls.len()) {
             raise(&mut self.faults);
-            log(
-                &mut self.calls,
-                FileCall::Create {
-                    name: entry,
-                    id: None,
-                },
-            );
+            log(&mut self.calls, FileCall::create(entry, None));
             return Err(IoErr::Failed);
         }
         let empty = Vec::new(self.alloc);
@@ -247,17 +229,11 @@ impl Files for MemFiles {
             Ok(()) => {}
             Err(_) => unreachable!(),
         }
-        log(
-            &mut self.calls,
-            FileCall::Create {
-                name: entry,
-                id: Some(id as u32),
-            },
-        );
+        log(&mut self.calls, FileCall::create(entry, Some(id as u32)));
         Ok(id as u32)
     }
 
-    /// Reads as much as there is and fits, or fails exactly where its number is listed.
+    /// Reads the next bytes, or fails exactly where its number is listed.
     fn read(&mut self, id: u32, buf: &mut [u8]) -> Result<usize, IoErr>
         requires given { id < mem_given self.old }
         requires opened { ⊤ → (mem_store self.old).opened id ≡ true }
@@ -279,14 +255,7 @@ impl Files for MemFiles {
         let asked = buf.len() as u64;
         if is_listed(&self.fails, self.calls.len()) {
             raise(&mut self.faults);
-            log(
-                &mut self.calls,
-                FileCall::Read {
-                    id,
-                    asked,
-                    got: None,
-                },
-            );
+            log(&mut self.calls, FileCall::read(id, asked, None));
             return Err(IoErr::Failed);
         }
         let Some(bytes) = held::find(&self.files, self.ids[id as usize].name.as_str()) else {
@@ -297,11 +266,7 @@ impl Files for MemFiles {
         own.place += count;
         log(
             &mut self.calls,
-            FileCall::Read {
-                id,
-                asked,
-                got: Some(count as u64),
-            },
+            FileCall::read(id, asked, Some(count as u64)),
         );
         Ok(count)
     }
@@ -319,6 +284,7 @@ impl Files for MemFiles {
         // It fails exactly where its number is listed, or the reason stands here.
         ensures failed { IsErrOf result IoErr.Failed → NextFails self.old }
         ensures ok { OnOk result (¬ NextFails self.old) }
+        ensures all { IfOk result (λ n. n ≡ length bytes.now) }
         ensures faults { IsCountOfFailed (mem_faults self.old) (mem_faults self.new) result }
         ensures fails { mem_fails self.new ≡ mem_fails self.old }
     {
@@ -328,28 +294,14 @@ impl Files for MemFiles {
         let given = bytes.len() as u64;
         if is_listed(&self.fails, self.calls.len()) {
             raise(&mut self.faults);
-            log(
-                &mut self.calls,
-                FileCall::Write {
-                    id,
-                    given,
-                    taken: None,
-                },
-            );
+            log(&mut self.calls, FileCall::write(id, given, None));
             return Err(IoErr::Failed);
         }
         let name = self.ids[id as usize].name.as_str();
         let Ok(()) = held::append(&mut self.files, name, bytes) else {
             return Err(IoErr::Memory);
         };
-        log(
-            &mut self.calls,
-            FileCall::Write {
-                id,
-                given,
-                taken: Some(given),
-            },
-        );
+        log(&mut self.calls, FileCall::write(id, given, Some(given)));
         Ok(bytes.len())
     }
 
