@@ -1,0 +1,37 @@
+use Rattle.std.proofs.Common.{◌≡◌, ℕ, ◌++◌, [], ◌∷◌, List, string_bytes, length, arith, true, sym, ap, subst, ◌∙◌}
+use Rattle.std.specs.Option.{is_some}
+use Rattle.soda_io.specs.declared.mem_id.MemId.{MemId}
+use Rattle.soda_io.specs.Ids.{AllHeld}
+use Rattle.soda_io.specs.Held.{held}
+use Rattle.soda_io.specs.Store.{Puts}
+use Rattle.soda_io.proofs.MemSteps.{all_held, creates_ok}
+use Rattle.soda_io.proofs.mem_files.MemFilesFiles.create.Goals as goal
+
+pub invariant_of-self-in_default-reserve-2-clause-held : goal.invariant_of-self-in_default-reserve-2-clause-held
+invariant_of-self-in_default-reserve-2-clause-held c =
+    let P : List MemId → Type 0 = λ is. AllHeld is c.args.self.now.files in
+    subst P (sym c.reserve-2.ensures.items) c.args.self.now.held
+
+pub invariant_of-self-then-id-ge-MOST_IDS-clause-held : goal.invariant_of-self-then-id-ge-MOST_IDS-clause-held
+invariant_of-self-then-id-ge-MOST_IDS-clause-held c =
+    let P : List MemId → Type 0 = λ is. AllHeld is c.args.self.now.files in
+    subst P (sym c.reserve-2.ensures.items) c.args.self.now.held
+
+pub invariant_of-self-in_default-put-clause-held : goal.invariant_of-self-in_default-put-clause-held
+invariant_of-self-in_default-put-clause-held c =
+    let P : List MemId → Type 0 = λ is. AllHeld is c.put.new.files in
+    subst P (sym c.reserve-2.ensures.items) (λ k lt. c.put.ensures.none_lost _ (c.args.self.now.held k lt))
+
+pub invariant_of-self-2-clause-held : goal.invariant_of-self-2-clause-held
+invariant_of-self-2-clause-held c =
+    let there : is_some (held c.put.new.files (string_bytes c.in-Ok-id_of.fresh.name)) ≡ true =
+    ap (λ (n : List ℕ). is_some (held c.put.new.files n)) c.in-Ok-id_of.ensures.0 ∙ ap is_some c.in-Ok-put.ensures.ok.own in
+    all_held c.args.self.now.ids.items c.push.new.self.items c.in-Ok-id_of.fresh (c.in-Ok-push.ensures.items ∙ ap (λ (is : List MemId). is ++ c.in-Ok-id_of.fresh ∷ []) c.reserve-2.ensures.items) c.args.self.now.files c.put.new.files c.args.self.now.held c.put.ensures.none_lost there
+
+pub returns-clause-store : goal.returns-clause-store
+returns-clause-store c = λ _.
+    let at_end : c.len-id.result ≡ length c.args.self.now.ids.items = omega (arith, c.len-id.ensures, c.reserve-2.ensures.len, c.args.self.now.ids.ok.0) in
+    creates_ok c.args.self.now.ids.items c.push.new.self.items c.in-Ok-id_of.fresh (c.in-Ok-push.ensures.items ∙ ap (λ (is : List MemId). is ++ c.in-Ok-id_of.fresh ∷ []) c.reserve-2.ensures.items) c.len-id.result at_end c.args.self.now.files c.put.new.files c.args.self.now.calls.items c.log-2.new.calls.items c.args.name.now
+    c.in-Ok-id_of.ensures.0 c.in-Ok-id_of.ensures.1 c.in-Ok-id_of.ensures.2
+    (let P : List ℕ → Type 0 = λ xs. Puts c.args.name.now xs (held c.args.self.now.files) (held c.put.new.files) in subst P c.new-empty.ensures.items c.in-Ok-put.ensures.ok)
+    (cc (c.log-2.ensures, c.reserve.ensures.items, c.in-Ok.ensures))
