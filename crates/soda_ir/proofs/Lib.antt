@@ -1,0 +1,8 @@
+pub mod Tree
+pub mod Steps
+pub mod Values
+pub mod Touched
+pub mod Depth
+pub mod Numbers
+pub mod From
+pub mod Sum

@@ -1,0 +1,38 @@
+-- One level of a tree.
+use Rattle.std.proofs.Common.{◌≡◌, ℕ, List, ℤ, refl}
+use Rattle.int_types.specs.IntType.{IntType}
+use Rattle.int_types.specs.declared.operators.UnOp.{UnOp}
+use Rattle.int_types.specs.declared.operators.BinOp.{BinOp}
+use Rattle.arrayvec.specs.ArrayVec.{ArrayVec}
+use Rattle.soda_ir.specs.declared.expr.Expr.{Expr, Num, Cell, Un, Bin, Select, Cast, the_lemmas}
+use Rattle.soda_ir.specs.declared.expr.Expr.TheBlock.{hidden-the_row-Expr-0}
+use Rattle.soda_ir.specs.Formula.{Formula, number, read, unary, binary, choice, cast}
+use Rattle.soda_ir.specs.Tree.{formula_of, part_of}
+use denote.Hole.Carrier.{hidden}
+
+pub formula_of-Num : (n : ℕ) → formula_of (Num n) ≡ number n
+unfolding formula_of
+formula_of-Num n = refl
+
+pub formula_of-Cell : (t : ℕ) (o : ArrayVec ℤ) → formula_of (Cell t o) ≡ read t o.items
+unfolding formula_of
+formula_of-Cell t o = refl
+
+pub formula_of-Un : (op : UnOp) (a : Expr) → formula_of (Un op a) ≡ unary op (formula_of a)
+unfolding formula_of part_of hidden-the_row-Expr-0 hidden
+formula_of-Un op a = refl
+
+pub formula_of-Bin : (op : BinOp) (a b : Expr) → formula_of (Bin op a b) ≡ binary op (formula_of a) (formula_of b)
+unfolding formula_of part_of hidden-the_row-Expr-0 hidden
+formula_of-Bin op a b = refl
+
+pub formula_of-Select : (c a b : Expr) → formula_of (Select c a b) ≡ choice (formula_of c) (formula_of a) (formula_of b)
+unfolding formula_of part_of hidden-the_row-Expr-0 hidden
+formula_of-Select c a b = refl
+
+pub formula_of-Cast : (t : IntType) (a : Expr) → formula_of (Cast t a) ≡ cast t (formula_of a)
+unfolding formula_of part_of hidden-the_row-Expr-0 hidden
+formula_of-Cast t a = refl
+
+pub ruleset levels =
+    (formula_of-Num, formula_of-Cell, formula_of-Un, formula_of-Bin, formula_of-Select, formula_of-Cast, the_lemmas)

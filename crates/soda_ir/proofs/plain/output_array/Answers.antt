@@ -1,0 +1,15 @@
+use Rattle.std.proofs.Common.{◌≡◌, ◌∷◌, [], ℕ, ap, sym, ◌∙◌, List, ℤ, arith}
+use Rattle.soda_ir.specs.Arrays.{cell, whole}
+use Rattle.soda_ir.specs.Points.{listed, point}
+use Rattle.soda_ir.specs.Program.{cells_at, extents_at, plain, stencil_of}
+use Rattle.soda_ir.proofs.Sum.{cells_are, rows_are}
+use Rattle.soda_ir.proofs.plain.output_array.Goals as goal
+
+pub returns : goal.returns
+returns c =
+    let q = plain c.args.program.now in
+    let valid = c.parts-valid.ensures.valid in
+    let at : ℕ → ℤ = λ i. cell (stencil_of q c.args.rows) (whole (extents_at q c.args.rows) c.args.inputs.now) c.args.params.now 2 1 (point (extents_at q c.args.rows) i) in
+    let end : c.loop-place.place ≡ c.args.rows = omega arith in
+    ap (λ (xs : List ℤ). xs ∷ []) (c.from_vec.ensures ∙ c.loop-place.invariant ∙ ap (λ n. listed at n) (end ∙ sym (rows_are q valid c.args.rows)))
+    ∙ sym (cells_are q valid c.args.rows c.args.params.now c.args.inputs.now)
