@@ -1,5 +1,5 @@
 -- Which words are names.
-use Rattle.std.specs.Prelude.{ℕ, Bool, true, false, ◌&&◌, ◌||◌, nat_le, nat_lt, ◌==◌, List, [], ◌∷◌, length, Option, Some, None, codes, if◌then◌else◌}
+use Rattle.std.specs.Prelude.{ℕ, Bool, true, false, not, ◌&&◌, ◌||◌, nat_le, nat_lt, ◌==◌, List, [], ◌∷◌, length, Option, Some, None, codes, if◌then◌else◌}
 use Rattle.std.specs.List.{list_all}
 
 abbrev pub is_letter : ℕ → Bool
@@ -44,9 +44,14 @@ abbrev pub is_cast_word : List ℕ → Bool
 is_cast_word bs =
     is_numbered (codes "int") bs || is_numbered (codes "uint") bs || may_be_numbered (codes "float") bs || may_be_numbered (codes "half") bs || may_be_numbered (codes "double") bs
 
+-- the bytes are this word
 abbrev pub is_word : List ℕ → List ℕ → Bool
 is_word word bs = elim (behind word bs) [ None ↦ false | Some rest ↦ length rest == 0 ]
 
 -- the words that no tensor or param is called
 abbrev pub is_reserved : List ℕ → Bool
 is_reserved bs = is_cast_word bs || is_word (codes "min") bs || is_word (codes "max") bs || is_word (codes "abs") bs || is_word (codes "select") bs
+
+-- a name that a tensor or a param may have
+abbrev pub is_free_name : List ℕ → Bool
+is_free_name bs = is_name bs && not (is_reserved bs)

@@ -6,7 +6,7 @@ use Rattle.int_types.specs.declared.operators.BinOp.TheVariants.{Add, Sub}
 use Rattle.soda_ir.specs.declared.program.Border.TheVariants.{Ignore}
 use Rattle.soda_ir.specs.declared.program.Role.TheVariants.{Input, Output}
 use Rattle.soda_ir.specs.Formula.{Formula, number, read, param, unary, binary, choice, cast}
-use Rattle.soda_ir.specs.Names.{is_name, is_reserved}
+use Rattle.soda_ir.specs.Names.{is_free_name, is_name}
 use Rattle.soda_ir.specs.Program.{PlainProgram, PlainTensor}
 
 abbrev pub uint8 : IntType
@@ -54,10 +54,8 @@ pub record IsByteBurst (burst : ℕ) : Type 0 where
 
 -- the names of an input and of an output that may stand in one program
 pub record AreNames (input output : List ℕ) : Type 0 where
-  pub first : is_name input ≡ true
-  pub second : is_name output ≡ true
-  pub first_free : is_reserved input ≡ false
-  pub second_free : is_reserved output ≡ false
+  pub first : is_free_name input ≡ true
+  pub second : is_free_name output ≡ true
   pub apart : input ≢ output
 
 -- one output, which is this formula over one input, in one dimension

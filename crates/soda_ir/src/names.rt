@@ -1,6 +1,6 @@
 ghost use Rattle.std.specs.Prelude.{◌≡◌, option_map, Option, List, ℕ};
 ghost use Rattle.std.specs.List.{list_all};
-ghost use Rattle.soda_ir.specs.Names.{is_letter, is_digit, begins_name, is_word_byte, is_name, behind, is_some_digits, is_numbered, may_be_numbered, is_cast_word, is_word, is_reserved};
+ghost use Rattle.soda_ir.specs.Names.{is_letter, is_digit, begins_name, is_word_byte, is_name, behind, is_some_digits, is_numbered, may_be_numbered, is_cast_word, is_word, is_reserved, is_free_name};
 
 /// The most bytes of a name.
 const MOST: usize = 64;
@@ -65,7 +65,8 @@ pub fn behind<'a>(front: &[u8], bytes: &'a [u8]) -> Option<&'a [u8]>
     }
 }
 
-fn is_some_digits(bytes: &[u8]) -> bool
+/// Whether the bytes are one digit or more, and nothing else.
+pub fn is_some_digits(bytes: &[u8]) -> bool
     ensures { result ≡ is_some_digits bytes.now }
 {
     match bytes {
@@ -102,7 +103,8 @@ fn is_cast_word(bytes: &[u8]) -> bool
         || may_be_numbered(b"double", bytes)
 }
 
-fn is_word(word: &[u8], bytes: &[u8]) -> bool
+/// Whether the bytes are this word.
+pub fn is_word(word: &[u8], bytes: &[u8]) -> bool
     ensures { result ≡ is_word word.now bytes.now }
 {
     match behind(word, bytes) {
@@ -120,4 +122,11 @@ pub fn is_reserved(bytes: &[u8]) -> bool
         || is_word(b"max", bytes)
         || is_word(b"abs", bytes)
         || is_word(b"select", bytes)
+}
+
+/// Whether a tensor or a param may have this name: a name that isn't reserved.
+pub fn is_free_name(bytes: &[u8]) -> bool
+    ensures { result ≡ is_free_name bytes.now }
+{
+    is_name(bytes) && !is_reserved(bytes)
 }

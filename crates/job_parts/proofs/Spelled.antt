@@ -1,0 +1,170 @@
+-- What is read at the front is spelled so, and what is spelled so is read.
+use Rattle.std.proofs.Common.{◌≡◌, ◌≢◌, ℕ, zero, suc, ◌+◌, ◌-◌, ◌*◌, ◌<◌, ◌≤◌, ◌^◌, Bool, true, false, not, ◌&&◌, ◌||◌, ◌==◌, nat_lt, nat_le, List, [], ◌∷◌, ◌++◌, length, get_or, Option, Some, None, refl, sym, ◌∙◌, ap, subst, arith, rules, append_assoc, if◌then◌else◌, codes, eq-eqb}
+use Rattle.std.specs.Fmt.{decimal}
+use Rattle.std.specs.List.{list_all}
+use Rattle.std.proofs.lemmas.Bool.{eqb-true}
+use Rattle.std.proofs.lemmas.Fmt.{decimal-digits_value, decimal_digit, decimal_nonempty, digits_decimal, digits_value-decimal, first_decimal}
+use Rattle.std.proofs.lemmas.Str.Parse.{IsNumeralModel, numerals_by_fold}
+use borrow.Author.Tests.{ltb-true, lt-ltb}
+use Rattle.soda_ir.specs.Names.{behind, begins_name, is_digit, is_name, is_some_digits, is_word_byte}
+use Rattle.job_parts.specs.Scan.{◌>>=◌, begins_with_zero, front_of, is_number, name_at, number_at, rest_of, value_behind}
+
+pub both : (a b : Bool) → a ≡ true → b ≡ true → (a && b) ≡ true
+both true b p q = q
+both false b p q = p
+
+pub first : (a b : Bool) → (a && b) ≡ true → a ≡ true
+first true b e = refl
+first false b e = cc
+
+pub second : (a b : Bool) → (a && b) ≡ true → b ≡ true
+second true b e = e
+second false b e = cc
+
+-- steps that may fail
+pub bind_ok : {A B : Type 0} (r : Option A) (f : A → Option B) (y : B) → (r >>= f) ≡ Some y → (x : A) × (r ≡ Some x) × (f x ≡ Some y)
+bind_ok None f y e = cc
+bind_ok (Some x) f y e = (x, refl, e)
+
+pub bind_is : {A B : Type 0} (r : Option A) (f : A → Option B) (x : A) → r ≡ Some x → (r >>= f) ≡ f x
+bind_is r f x e = ap (λ o. o >>= f) e
+
+pub if_some : {A : Type 0} (b : Bool) (x y : A) → (if b then Some x else None) ≡ Some y → (b ≡ true) × (x ≡ y)
+if_some true x y e = (refl, cc)
+if_some false x y e = cc
+
+-- a front that is known
+pub behind_takes : (p bs r : List ℕ) → behind p bs ≡ Some r → bs ≡ p ++ r
+behind_takes [] bs r e = cc
+behind_takes (p ∷ ps) [] r e = cc
+behind_takes (p ∷ ps) (b ∷ bs) r e =
+    elim (p == b) as (λ t. (p == b) ≡ t → (if t then behind ps bs else None) ≡ Some r → (b ∷ bs) ≡ (p ∷ ps) ++ r) [
+      | true ↦ λ q e. let same : p ≡ b = eqb-true p b q in let tail : bs ≡ ps ++ r = behind_takes ps bs r e in cc
+      | false ↦ λ q e. cc
+    ] refl e
+
+pub behind_again : (p r : List ℕ) → behind p (p ++ r) ≡ Some r
+behind_again [] r = refl
+behind_again (p ∷ ps) r = ap (λ t. if t then behind ps (ps ++ r) else None) (eq-eqb p p refl) ∙ behind_again ps r
+
+-- nothing, or a byte that is none of a word
+abbrev pub Stops : List ℕ → Type 0
+Stops [] = Unit {0}
+Stops (b ∷ bs) = is_word_byte b ≡ false
+
+pub front_rest : (bs : List ℕ) → bs ≡ front_of bs ++ rest_of bs
+front_rest [] = refl
+front_rest (b ∷ bs) =
+    elim (is_word_byte b) as (λ t. (b ∷ bs) ≡ (if t then b ∷ front_of bs else []) ++ (if t then rest_of bs else b ∷ bs)) [
+      | true ↦ ap (λ (xs : List ℕ). b ∷ xs) (front_rest bs)
+      | false ↦ refl
+    ]
+
+pub front_again : (xs ys : List ℕ) → list_all is_word_byte xs ≡ true → Stops ys → front_of (xs ++ ys) ≡ xs
+front_again [] [] h s = refl
+front_again [] (y ∷ ys) h s = ap (λ t. if t then y ∷ front_of ys else []) s
+front_again (x ∷ xs) ys h s =
+    ap (λ t. if t then x ∷ front_of (xs ++ ys) else []) (first (is_word_byte x) (list_all is_word_byte xs) h)
+    ∙ ap (λ (zs : List ℕ). x ∷ zs) (front_again xs ys (second (is_word_byte x) (list_all is_word_byte xs) h) s)
+
+pub rest_again : (xs ys : List ℕ) → list_all is_word_byte xs ≡ true → Stops ys → rest_of (xs ++ ys) ≡ ys
+rest_again [] [] h s = refl
+rest_again [] (y ∷ ys) h s = ap (λ t. if t then rest_of ys else y ∷ ys) s
+rest_again (x ∷ xs) ys h s =
+    ap (λ t. if t then rest_of (xs ++ ys) else x ∷ (xs ++ ys)) (first (is_word_byte x) (list_all is_word_byte xs) h)
+    ∙ rest_again xs ys (second (is_word_byte x) (list_all is_word_byte xs) h) s
+
+or_first : (a b : Bool) → a ≡ true → (a || b) ≡ true
+or_first true b e = refl
+or_first false b e = cc
+
+or_second : (a b : Bool) → b ≡ true → (a || b) ≡ true
+or_second true b e = refl
+or_second false b e = e
+
+-- names
+name_words : (x : List ℕ) → is_name x ≡ true → list_all is_word_byte x ≡ true
+name_words [] h = refl
+name_words (b ∷ bs) h =
+    let l = first (begins_name b && list_all is_word_byte bs) (nat_lt (length bs) 64) h in
+    both (begins_name b || is_digit b) (list_all is_word_byte bs) (or_first (begins_name b) (is_digit b) (first (begins_name b) (list_all is_word_byte bs) l)) (second (begins_name b) (list_all is_word_byte bs) l)
+
+pub name_takes : (bs : List ℕ) (x : List ℕ × List ℕ) → name_at bs ≡ Some x → (bs ≡ x.0 ++ x.1) × (is_name x.0 ≡ true)
+unfolding name_at
+name_takes bs x e =
+    let h = if_some (is_name (front_of bs)) (front_of bs, rest_of bs) x e in
+    let P : List ℕ × List ℕ → Type 0 = λ y. (bs ≡ y.0 ++ y.1) × (is_name y.0 ≡ true) in
+    subst P h.1 (front_rest bs, h.0)
+
+pub name_again : (x r : List ℕ) → is_name x ≡ true → Stops r → name_at (x ++ r) ≡ Some (x, r)
+unfolding name_at
+name_again x r h s =
+    ap (λ (f : List ℕ). if is_name f then Some (f, rest_of (x ++ r)) else None) (front_again x r (name_words x h) s)
+    ∙ ap (λ (z : List ℕ). if is_name x then Some (x, z) else None) (rest_again x r (name_words x h) s)
+    ∙ ap (λ t. if t then Some (x, r) else None) h
+
+-- numbers
+pub own : IsNumeralModel (λ ds. list_all is_digit ds ≡ true) (value_behind 0)
+own = numerals_by_fold _ (search rules) value_behind (search rules)
+
+digits_words : (ds : List ℕ) → list_all is_digit ds ≡ true → list_all is_word_byte ds ≡ true
+digits_words [] h = refl
+digits_words (d ∷ ds) h =
+    both (begins_name d || is_digit d) (list_all is_word_byte ds) (or_second (begins_name d) (is_digit d) (first (is_digit d) (list_all is_digit ds) h)) (digits_words ds (second (is_digit d) (list_all is_digit ds) h))
+
+some_digits : (ds : List ℕ) → list_all is_digit ds ≡ true → 0 < length ds → is_some_digits ds ≡ true
+some_digits [] h lt = absurd (omega arith)
+some_digits (d ∷ ds) h lt = h
+
+some_are_digits : (ds : List ℕ) → is_some_digits ds ≡ true → (list_all is_digit ds ≡ true) × (0 < length ds)
+some_are_digits [] h = cc
+some_are_digits (d ∷ ds) h = (h, omega arith)
+
+zero_first : (ds : List ℕ) → (not (begins_with_zero ds) || length ds == 1) ≡ true → get_or ds 0 0 ≡ 48 → length ds ≡ 1
+zero_first [] h e = absurd (omega arith)
+zero_first (d ∷ ds) h e =
+    let z : (d == 48) ≡ true = eq-eqb d 48 e in
+    let k : (length (d ∷ ds) == 1) ≡ true = ap (λ t. not t || length (d ∷ ds) == 1) (sym z) ∙ h in
+    eqb-true (length (d ∷ ds)) 1 k
+
+no_zero_first : (ds : List ℕ) → 48 < get_or ds 0 0 → (not (begins_with_zero ds) || length ds == 1) ≡ true
+no_zero_first [] h = absurd (omega arith)
+no_zero_first (d ∷ ds) h =
+    elim (d == 48) as (λ t. (d == 48) ≡ t → (not t || length (d ∷ ds) == 1) ≡ true) [
+      | true ↦ λ q. absurd (omega (arith, eqb-true d 48 q))
+      | false ↦ λ q. refl
+    ] refl
+
+one_zero : (n : ℕ) → n < 2 ^ 64 → (not (begins_with_zero (decimal n)) || length (decimal n) == 1) ≡ true
+one_zero zero h = ap (λ (ds : List ℕ). not (begins_with_zero ds) || length ds == 1) (decimal_digit 0 (omega arith))
+one_zero (suc n) h = no_zero_first (decimal (suc n)) (first_decimal (suc n) (omega arith) h)
+
+pub number_is : (n : ℕ) → n < 2 ^ 64 → is_number (decimal n) ≡ true
+number_is n h =
+    both (is_some_digits (decimal n) && (not (begins_with_zero (decimal n)) || length (decimal n) == 1)) (nat_lt (value_behind 0 (decimal n)) (2 ^ 64))
+    (both (is_some_digits (decimal n)) (not (begins_with_zero (decimal n)) || length (decimal n) == 1) (some_digits (decimal n) (digits_decimal own n h) (decimal_nonempty n h)) (one_zero n h))
+    (lt-ltb (value_behind 0 (decimal n)) (2 ^ 64) (omega (arith, digits_value-decimal own n h)))
+
+pub number_written : (ds : List ℕ) → is_number ds ≡ true → (ds ≡ decimal (value_behind 0 ds)) × (value_behind 0 ds < 2 ^ 64)
+number_written ds h =
+    let l = first (is_some_digits ds && (not (begins_with_zero ds) || length ds == 1)) (nat_lt (value_behind 0 ds) (2 ^ 64)) h in
+    let small : value_behind 0 ds < 2 ^ 64 = ltb-true (value_behind 0 ds) (2 ^ 64) (second (is_some_digits ds && (not (begins_with_zero ds) || length ds == 1)) (nat_lt (value_behind 0 ds) (2 ^ 64)) h) in
+    let d = some_are_digits ds (first (is_some_digits ds) (not (begins_with_zero ds) || length ds == 1) l) in
+    (sym (decimal-digits_value own ds d.0 d.1 (zero_first ds (second (is_some_digits ds) (not (begins_with_zero ds) || length ds == 1) l)) small), small)
+
+pub number_takes : (bs : List ℕ) (x : ℕ × List ℕ) → number_at bs ≡ Some x → (bs ≡ decimal x.0 ++ x.1) × (x.0 < 2 ^ 64)
+unfolding number_at
+number_takes bs x e =
+    let h = if_some (is_number (front_of bs)) (value_behind 0 (front_of bs), rest_of bs) x e in
+    let w = number_written (front_of bs) h.0 in
+    let P : ℕ × List ℕ → Type 0 = λ y. (bs ≡ decimal y.0 ++ y.1) × (y.0 < 2 ^ 64) in
+    subst P h.1 (front_rest bs ∙ ap (λ (xs : List ℕ). xs ++ rest_of bs) w.0, w.1)
+
+pub number_again : (n : ℕ) (r : List ℕ) → n < 2 ^ 64 → Stops r → number_at (decimal n ++ r) ≡ Some (n, r)
+unfolding number_at
+number_again n r h s =
+    let words = digits_words (decimal n) (digits_decimal own n h) in
+    ap (λ (f : List ℕ). if is_number f then Some (value_behind 0 f, rest_of (decimal n ++ r)) else None) (front_again (decimal n) r words s)
+    ∙ ap (λ (z : List ℕ). if is_number (decimal n) then Some (value_behind 0 (decimal n), z) else None) (rest_again (decimal n) r words s)
+    ∙ ap (λ t. if t then Some (value_behind 0 (decimal n), r) else None) (number_is n h)
+    ∙ ap (λ v. Some (v, r)) (digits_value-decimal own n h)

@@ -1,0 +1,10 @@
+use Rattle.std.proofs.Common.{◌≡◌, ◌≤◌, ◌++◌, ◌-◌, length, take, drop}
+use Rattle.job_parts.specs.Scan.{front_of, rest_of}
+use Rattle.job_parts.proofs.Fronts.{IsScanned}
+use Rattle.job_parts.proofs.scan.front_len.Given as goal
+
+abbrev pub invariant-loop-count : goal.invariant-loop-count
+invariant-loop-count l = IsScanned l.count l.bytes
+
+abbrev pub decreases-loop-count : goal.decreases-loop-count
+decreases-loop-count l = length l.bytes - l.count
