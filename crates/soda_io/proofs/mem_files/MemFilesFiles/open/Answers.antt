@@ -25,5 +25,5 @@ invariant_of-self-2-clause-held c =
 pub returns-clause-store : goal.returns-clause-store
 returns-clause-store c = λ _.
     let at_end : c.len-id.result ≡ length c.args.self.now.ids.items = omega (arith, c.len-id.ensures, c.reserve-2.ensures.len, c.args.self.now.ids.ok.0) in
-    opens_ok c.args.self.now.ids.items c.push.new.self.items c.in-Ok-id_of.fresh (c.in-Ok-push.ensures.items ∙ ap (λ (is : List MemId). is ++ c.in-Ok-id_of.fresh ∷ []) c.reserve-2.ensures.items) c.len-id.result at_end c.args.self.now.files c.args.self.now.calls.items c.log-2.new.calls.items c.args.name.now
-    c.in-Ok-id_of.ensures.0 c.in-Ok-id_of.ensures.1 c.in-Ok-id_of.ensures.2 (sym c.is_held.ensures ∙ c.if-not-is_held.false) (cc (c.log-2.ensures, c.reserve.ensures.items, c.in-Ok.ensures))
+    opens_ok c.args.self.now.ids.items c.push.new.self.items c.in-Ok-id_of.fresh (c.in-Ok-push.ensures.items ∙ ap (λ (is : List MemId). is ++ c.in-Ok-id_of.fresh ∷ []) c.reserve-2.ensures.items) c.len-id.result at_end c.args.self.now.files c.args.self.now.calls.items c.log.new.calls.items c.args.name.now
+    c.in-Ok-id_of.ensures.0 c.in-Ok-id_of.ensures.1 c.in-Ok-id_of.ensures.2 (sym c.is_held.ensures ∙ c.if-not-is_held.false) (cc (c.log.ensures, c.reserve.ensures.items, c.in-Ok.ensures))

@@ -30,5 +30,5 @@ returns-clause-store c = λ _.
     ap (λ (q : List ℕ). held c.args.self.now.files q) (sym (c.as_str.ensures.value ∙ name)) ∙ sym c.in-Some.ensures in
     let Got : ℕ → Type 0 = λ p. drop p c.in-Some.bytes.now ≡ take n buf ++ drop (p + n) c.in-Some.bytes.now in
     let End : ℕ → Type 0 = λ p. n ≡ 0 → drop p c.in-Some.bytes.now ≡ [] in
-    reads_ok is c.args.id own _ c.requires.given c.index_mut-own.ensures.value refl refl c.args.self.now.files c.args.self.now.calls.items c.log-2.new.calls.items (length c.args.buf.now) n buf c.in-Some.bytes.now refl there
-    (subst Got place c.copy_from-count.ensures.got) (subst End place (λ zero_n. c.copy_from-count.ensures.end zero_n c.requires.room)) c.copy_from-count.ensures.count (cc (c.log-2.ensures, c.in-Ok.ensures.items))
+    reads_ok is c.args.id own _ c.requires.given c.index_mut-own.ensures.value refl refl c.args.self.now.files c.args.self.now.calls.items c.log.new.calls.items (length c.args.buf.now) n buf c.in-Some.bytes.now refl there
+    (subst Got place c.copy_from-count.ensures.got) (subst End place (λ zero_n. c.copy_from-count.ensures.end zero_n c.requires.room)) c.copy_from-count.ensures.count (cc (c.log.ensures, c.in-Ok.ensures.items))

@@ -23,4 +23,4 @@ pub returns-clause-store : goal.returns-clause-store
 returns-clause-store c = λ _.
     let name : c.as_str-name.result.now ≡ name_at c.args.self.now.ids.items c.args.id = c.as_str-name.ensures.value ∙ sym (field_at-read _ _ _ _ c.index.result.now c.requires.given c.index.ensures) in
     let P : List ℕ → Type 0 = λ n. Puts n (unwrap_or (held c.args.self.now.files n) [] ++ c.args.bytes.now) (held c.args.self.now.files) (held c.append.new.files) in
-    writes_ok c.args.self.now.ids.items c.args.self.now.files c.append.new.files c.args.self.now.calls.items c.log-2.new.calls.items c.args.id c.args.bytes.now (subst P name c.in-Ok-append.ensures.ok) (cc (c.log-2.ensures, c.in-Ok.ensures.items))
+    writes_ok c.args.self.now.ids.items c.args.self.now.files c.append.new.files c.args.self.now.calls.items c.log.new.calls.items c.args.id c.args.bytes.now (subst P name c.in-Ok-append.ensures.ok) (cc (c.log.ensures, c.in-Ok.ensures.items))
