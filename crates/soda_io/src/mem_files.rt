@@ -2,7 +2,7 @@
 ghost use Rattle.std.specs.Prelude.{◌≡◌, ℕ, ◌<◌, ◌≤◌, ◌++◌, [], ◌∷◌, List, None, length, take, drop, ◌+◌, ◌^◌, min, string_bytes, vec_len, vec_capacity, OnOk, IfOk, OnErr, option_copied, Contains, IsErrOf, IsTrue, ◌↔◌, ⊤, true, false};
 ghost use Rattle.soda_io.specs.Cause.{raised, HasCause, IsCountOfFailed};
 ghost use Rattle.soda_io.specs.Ids.{AllHeld};
-ghost use Rattle.soda_io.specs.Store.{Puts, KeepsIds, KeepsBytes, KeepsPlaces, Opens, Creates, Reads, Writes, Gives};
+ghost use Rattle.soda_io.specs.Store.{Puts, KeepsIds, KeepsBytes, KeepsPlaces, Opens, Creates, Reads, Writes, Gives, NamesGiven};
 
 use crate::fault::raise;
 use crate::mem_id::MemId;
@@ -22,6 +22,7 @@ pub struct MemFiles {
     fails: Vec<u64>,
     faults: u64,
     ghost held: { AllHeld ids.items files },
+    ghost known: { NamesGiven (length ids.items) calls.items },
     ghost counted: { faults < 2 ^ 64 },
 }
 
@@ -326,6 +327,8 @@ impl Files for MemFiles {
         log(&mut self.calls, FileCall::write(id, given, Some(given)));
         Ok(bytes.len())
     }
+
+    ghost known = { λ m told. m.known };
 
     ghost below = { λ m. m.counted };
 }

@@ -189,5 +189,7 @@ impl<'a, R: Runtime> Files for RealFiles<'a, R> {
         }
     }
 
+    ghost known = { λ s told. absurd told };
+
     ghost below = { λ s. s.counted };
 }
