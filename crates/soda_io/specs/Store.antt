@@ -1,5 +1,5 @@
 -- A store of files: the bytes of each name, the name and place of each id, and the journal of calls.
-use Rattle.std.specs.Prelude.{◌≡◌, ◌≢◌, ◌↔◌, ℕ, ◌+◌, ◌<◌, Bool, true, false, List, [], ◌∷◌, ◌++◌, take, drop, unwrap_or, Some, None, Ok, Err, OnOk, OnErr, IfOk, IsErr}
+use Rattle.std.specs.Prelude.{◌≡◌, ◌≢◌, ◌↔◌, ℕ, ◌+◌, ◌<◌, ◌≤◌, All, Bool, true, false, List, [], ◌∷◌, ◌++◌, take, drop, unwrap_or, Some, None, Ok, Err, OnOk, OnErr, IfOk, IsErr}
 use Rattle.std.specs.Prelude.{Result}
 use Rattle.std.specs.Prelude.{Option}
 use Rattle.soda_io.specs.declared.error.IoErr.{IoErr}
@@ -30,6 +30,19 @@ abbrev pub logged : (Option ℕ → FileCall) → Result ℕ IoErr → List File
 logged entry (Ok n) = entry (Some n) ∷ []
 logged entry (Err Failed) = entry None ∷ []
 logged entry (Err Memory) = []
+
+-- one more than the id that an entry names, and 0 where it names none
+abbrev pub named : FileCall → ℕ
+named (Open name (Some id)) = id + 1
+named (Open name None) = 0
+named (Create name (Some id)) = id + 1
+named (Create name None) = 0
+named (Read id asked got) = id + 1
+named (Write id given taken) = id + 1
+
+-- a journal's entries name no id but those that were given
+abbrev pub NamesGiven : ℕ → List FileCall → Type 0
+NamesGiven given calls = All (λ e. named e ≤ given) calls
 
 -- no call changes the name of an id that was given before it, nor which call gave it
 pub record KeepsIds (given : ℕ) (old new : Store) : Type 0 where

@@ -1,6 +1,6 @@
 ghost use Rattle.std.specs.Prelude.{◌≡◌, ℕ, ◌<◌, ◌≤◌, ◌^◌, true, false, length, IfOk};
 ghost use Rattle.soda_io.specs.Cause.{HasCause};
-ghost use Rattle.soda_io.specs.Store.{Store, Opens, Creates, Reads, Writes, Gives};
+ghost use Rattle.soda_io.specs.Store.{Store, Opens, Creates, Reads, Writes, Gives, NamesGiven};
 
 use crate::IoErr;
 
@@ -59,6 +59,9 @@ pub trait Files {
         ensures ids { given self.new ≡ given self.old }
         ensures store { tells → Writes (given self.old) (store self.old) (store self.new) id bytes.now (length bytes.now) result }
         ensures cause { HasCause (faults self.old) (faults self.new) result };
+
+    /// The journal names no id that wasn't given.
+    ghost known: { (s : Self) → tells → NamesGiven (given s) (store s).calls };
 
     /// A count of 64 bits.
     ghost below: { (s : Self) → faults s < 2 ^ 64 };

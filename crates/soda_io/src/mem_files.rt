@@ -1,8 +1,8 @@
 // Files in memory, with a journal of the calls.
 ghost use Rattle.std.specs.Prelude.{◌≡◌, ℕ, ◌<◌, ◌≤◌, ◌++◌, [], ◌∷◌, List, None, length, take, drop, ◌+◌, ◌^◌, min, string_bytes, vec_len, vec_capacity, OnOk, IfOk, OnErr, option_copied, Contains, IsErrOf, IsTrue, ◌↔◌, ⊤, true, false};
-ghost use Rattle.soda_io.specs.Cause.{HasCause, IsCountOfFailed};
+ghost use Rattle.soda_io.specs.Cause.{raised, HasCause, IsCountOfFailed};
 ghost use Rattle.soda_io.specs.Ids.{AllHeld};
-ghost use Rattle.soda_io.specs.Store.{Puts, KeepsIds, KeepsBytes, KeepsPlaces, Opens, Creates, Reads, Writes, Gives};
+ghost use Rattle.soda_io.specs.Store.{Puts, KeepsIds, KeepsBytes, KeepsPlaces, Opens, Creates, Reads, Writes, Gives, NamesGiven};
 
 use crate::fault::raise;
 use crate::mem_id::MemId;
@@ -22,6 +22,7 @@ pub struct MemFiles {
     fails: Vec<u64>,
     faults: u64,
     ghost held: { AllHeld ids.items files },
+    ghost known: { NamesGiven (length ids.items) calls.items },
     ghost counted: { faults < 2 ^ 64 },
 }
 
@@ -81,6 +82,16 @@ fn log(calls: &mut Vec<FileCall>, entry: FileCall)
         Ok(()) => {}
         Err(_) => unreachable!(),
     }
+}
+
+// Adds the entry of a call that fails, and counts the fault.
+fn fail(calls: &mut Vec<FileCall>, faults: &mut u64, entry: FileCall)
+    requires { vec_len calls.old < vec_capacity calls.old }
+    ensures calls { calls.new.items ≡ calls.old.items ++ entry ∷ [] }
+    ensures faults { faults.new ≡ raised faults.old }
+{
+    raise(faults);
+    log(calls, entry);
 }
 
 impl MemFiles {
@@ -179,8 +190,11 @@ impl Files for MemFiles {
             || is_listed(&self.fails, self.calls.len())
             || !held::is_held(&self.files, name)
         {
-            raise(&mut self.faults);
-            log(&mut self.calls, FileCall::open(entry, None));
+            fail(
+                &mut self.calls,
+                &mut self.faults,
+                FileCall::open(entry, None),
+            );
             return Err(IoErr::Failed);
         }
         match self.ids.push(fresh) {
@@ -217,8 +231,11 @@ impl Files for MemFiles {
         };
         let id = self.ids.len();
         if id >= MOST_IDS || is_listed(&self.fails, self.calls.len()) {
-            raise(&mut self.faults);
-            log(&mut self.calls, FileCall::create(entry, None));
+            fail(
+                &mut self.calls,
+                &mut self.faults,
+                FileCall::create(entry, None),
+            );
             return Err(IoErr::Failed);
         }
         let empty = Vec::new(self.alloc);
@@ -254,8 +271,11 @@ impl Files for MemFiles {
         };
         let asked = buf.len() as u64;
         if is_listed(&self.fails, self.calls.len()) {
-            raise(&mut self.faults);
-            log(&mut self.calls, FileCall::read(id, asked, None));
+            fail(
+                &mut self.calls,
+                &mut self.faults,
+                FileCall::read(id, asked, None),
+            );
             return Err(IoErr::Failed);
         }
         let Some(bytes) = held::find(&self.files, self.ids[id as usize].name.as_str()) else {
@@ -293,8 +313,11 @@ impl Files for MemFiles {
         };
         let given = bytes.len() as u64;
         if is_listed(&self.fails, self.calls.len()) {
-            raise(&mut self.faults);
-            log(&mut self.calls, FileCall::write(id, given, None));
+            fail(
+                &mut self.calls,
+                &mut self.faults,
+                FileCall::write(id, given, None),
+            );
             return Err(IoErr::Failed);
         }
         let name = self.ids[id as usize].name.as_str();
@@ -304,6 +327,8 @@ impl Files for MemFiles {
         log(&mut self.calls, FileCall::write(id, given, Some(given)));
         Ok(bytes.len())
     }
+
+    ghost known = { λ m told. m.known };
 
     ghost below = { λ m. m.counted };
 }

@@ -52,7 +52,7 @@ impl<W: Write + Drop> Sink for StdSink<W> {
         ensures faults { IsCountOfErrors self.old.faults self.new.faults result }
     {
         match self.writer.write(bytes) {
-            Ok(count) if count > 0 => Ok(count),
+            Ok(taken) if taken > 0 => Ok(taken),
             _ => {
                 raise(&mut self.faults);
                 Err(IoErr::Failed)
@@ -188,6 +188,8 @@ impl<'a, R: Runtime> Files for RealFiles<'a, R> {
             }
         }
     }
+
+    ghost known = { λ s told. absurd told };
 
     ghost below = { λ s. s.counted };
 }

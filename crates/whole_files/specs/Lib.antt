@@ -1,0 +1,4 @@
+pub mod Journal
+pub mod Reading
+pub mod Writing
+pub mod Sinking
