@@ -1,0 +1,5 @@
+pub mod Members
+mod Examples
+pub mod Rising
+pub mod OfLane
+pub mod OfAllLanes
