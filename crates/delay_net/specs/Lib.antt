@@ -1,0 +1,5 @@
+pub mod Sums
+pub mod Shape
+pub mod Windows
+pub mod Certificate
+pub mod End

@@ -1,0 +1,54 @@
+ghost use Rattle.std.specs.Prelude.{◌≡◌, ℕ, ◌<◌, length, slice_index};
+ghost use Rattle.delay_net.specs.Windows.{IsAssignment, HasShortDelays, MeetsWindows, IsGreatestAge, storage_of, total_storage};
+
+use crate::timing::age_of;
+use crate::{Net, Read};
+
+/// The storage of a tensor in cells: the greatest age of its reads, 0 where it isn't read.
+pub fn storage_of(net: &Net, delays: &[u64], tensor: u32) -> u64
+    requires assignment { IsAssignment net.now.weights delays.now }
+    requires delays { HasShortDelays delays.now }
+    requires meets { MeetsWindows net.now.reads delays.now }
+    requires tensor { tensor < length net.now.weights }
+    ensures value { result ≡ storage_of net.now.reads delays.now tensor }
+    ensures greatest { IsGreatestAge net.now.reads delays.now tensor result }
+{
+    let mut greatest = 0;
+    for read in net.reads() {
+        if read.of == tensor {
+            greatest = age_of(*read, delays).max(greatest);
+        }
+    }
+    greatest
+}
+
+// The storage of each tensor in cells.
+fn storage_of_each(net: &Net, delays: &[u64]) -> [u64; 512]
+    requires assignment { IsAssignment net.now.weights delays.now }
+    requires delays { HasShortDelays delays.now }
+    requires meets { MeetsWindows net.now.reads delays.now }
+    ensures { (tensor : ℕ) → tensor < 512
+        → slice_index result tensor ≡ storage_of net.now.reads delays.now tensor }
+{
+    let mut greatest = [0; 512];
+    for read in net.reads() {
+        let of = read.of as usize;
+        greatest[of] = age_of(*read, delays).max(greatest[of]);
+    }
+    greatest
+}
+
+/// The total storage in bits: over the tensors, width times storage.
+pub fn storage(net: &Net, delays: &[u64]) -> u128
+    requires assignment { IsAssignment net.now.weights delays.now }
+    requires delays { HasShortDelays delays.now }
+    requires meets { MeetsWindows net.now.reads delays.now }
+    ensures { result ≡ total_storage net.now.weights net.now.reads delays.now }
+{
+    let greatest = storage_of_each(net, delays);
+    let mut bits = 0;
+    for (tensor, width) in net.weights().iter().enumerate() {
+        bits += *width as u128 * greatest[tensor] as u128;
+    }
+    bits
+}
