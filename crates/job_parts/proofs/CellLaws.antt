@@ -74,7 +74,7 @@ lines_again [] i h = refl
 lines_again (v ∷ cells) i h =
     let b = byte_number v (All-head (λ (v : ℤ). InRange uint8 v) v cells h) in
     let flat : text_from 1 i (v ∷ cells) ≡ decimal b.0 ++ (10 ∷ text_from 1 (i + 1) cells) =
-        ap (λ w. signed_decimal w ++ (parting 1 i ∷ text_from 1 (i + 1) cells)) b.1 ∙ ap (λ p. decimal b.0 ++ (p ∷ text_from 1 (i + 1) cells)) (one_a_line i) in
+    ap (λ w. signed_decimal w ++ (parting 1 i ∷ text_from 1 (i + 1) cells)) b.1 ∙ ap (λ p. decimal b.0 ++ (p ∷ text_from 1 (i + 1) cells)) (one_a_line i) in
     ap (λ (xs : List ℕ). cell_line_at xs >>= (λ c. cell_lines_at (length cells) c.1 >>= (λ cs. Some (c.0 ∷ cs.0, cs.1)))) flat
     ∙ bind_is (cell_line_at (decimal b.0 ++ (10 ∷ text_from 1 (i + 1) cells))) (λ c. cell_lines_at (length cells) c.1 >>= (λ cs. Some (c.0 ∷ cs.0, cs.1))) (pos b.0, text_from 1 (i + 1) cells) (line_again b.0 (text_from 1 (i + 1) cells) b.2)
     ∙ bind_is (cell_lines_at (length cells) (text_from 1 (i + 1) cells)) (λ cs. Some (pos b.0 ∷ cs.0, cs.1)) (cells, []) (lines_again cells (i + 1) (All-tail (λ (v : ℤ). InRange uint8 v) v cells h))

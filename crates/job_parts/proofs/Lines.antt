@@ -18,7 +18,7 @@ written_more run i n m text more cells w lt next is = record {
       let up : suc i ≡ i + 1 = omega arith in
       let ahead : m ≡ i + 1 = omega arith in
       let step : text_from run i (drop i cells) ≡ signed_decimal (get_or cells i (pos 0)) ++ parting run i ∷ text_from run (i + 1) (drop (i + 1) cells) =
-          ap (text_from run i) (drop-cons cells i (pos 0) lt) ∙ ap (λ k. signed_decimal (get_or cells i (pos 0)) ++ parting run i ∷ text_from run (i + 1) (drop k cells)) up in
+      ap (text_from run i) (drop-cons cells i (pos 0) lt) ∙ ap (λ k. signed_decimal (get_or cells i (pos 0)) ++ parting run i ∷ text_from run (i + 1) (drop k cells)) up in
       let end : (if m % run == 0 then 10 else 32) ≡ parting run i = ap (λ k. if k % run == 0 then 10 else 32) ahead in
       let own : List ℕ = signed_decimal (get_or cells i (pos 0)) in
       ap (λ (xs : List ℕ). xs ++ text_from run (i + 1) (drop (i + 1) cells)) is

@@ -85,8 +85,8 @@ module _ (input : List ℕ) where
       let r : Reach = record { negative = (sign_at b.0).0; size = n.0.0 } in
       let P : Reach × List ℕ → Type 0 = λ y. (bs ≡ cell_text input y.0 ++ y.1) × IsShort y.0 in
       let whole : bs ≡ input ++ (codes "(" ++ (sign_text r.negative ++ (decimal r.size ++ (codes ")" ++ d.0)))) =
-          behind_takes input bs a.0 a.1 ∙ ap (λ (xs : List ℕ). input ++ xs) (behind_takes (codes "(") a.0 b.0 b.1 ∙ ap (λ (xs : List ℕ). codes "(" ++ xs) (sign_takes b.0
-          ∙ ap (λ (xs : List ℕ). sign_text r.negative ++ xs) (t.0 ∙ ap (λ (xs : List ℕ). decimal r.size ++ xs) (behind_takes (codes ")") n.0.1 d.0 d.1)))) in
+      behind_takes input bs a.0 a.1 ∙ ap (λ (xs : List ℕ). input ++ xs) (behind_takes (codes "(") a.0 b.0 b.1 ∙ ap (λ (xs : List ℕ). codes "(" ++ xs) (sign_takes b.0
+      ∙ ap (λ (xs : List ℕ). sign_text r.negative ++ xs) (t.0 ∙ ap (λ (xs : List ℕ). decimal r.size ++ xs) (behind_takes (codes ")") n.0.1 d.0 d.1)))) in
       subst P (some_inj d.2) (whole ∙ sym (flat_cell input r d.0), leb-true n.0.0 32768 c.0)
 
   pub reach_again : (r : Reach) (rest : List ℕ) → IsShort r → reach_at input (cell_text input r ++ rest) ≡ Some (r, rest)
@@ -148,15 +148,15 @@ module _ (input : List ℕ) where
       elim (term_at input bs) as (λ o. term_at input bs ≡ o → AreTerms (suc n) bs (one_more bs (terms_at input n) o).0 (one_more bs (terms_at input n) o).1) [
         | None ↦ λ e. record { spelled = refl; short = All-nil (λ (u : Term). IsShort u.reach); few = omega arith }
         | Some t ↦ λ e.
-          let one = term_takes bs t e in
-          let more = terms_takes n t.1 in
-          record {
-            spelled = one.0 ∙ ap (λ (xs : List ℕ). lead t.0 ++ (cell_text input t.0.reach ++ xs)) more.spelled
-                ∙ ap (λ (xs : List ℕ). lead t.0 ++ xs) (sym (append_assoc (cell_text input t.0.reach) (terms_text input (terms_at input n t.1).0) (terms_at input n t.1).1))
-                ∙ sym (append_assoc (lead t.0) (cell_text input t.0.reach ++ terms_text input (terms_at input n t.1).0) (terms_at input n t.1).1);
-            short = All-cons (λ (u : Term). IsShort u.reach) t.0 (terms_at input n t.1).0 one.1 more.short;
-            few = omega (arith, more.few);
-          }
+            let one = term_takes bs t e in
+            let more = terms_takes n t.1 in
+            record {
+              spelled = one.0 ∙ ap (λ (xs : List ℕ). lead t.0 ++ (cell_text input t.0.reach ++ xs)) more.spelled
+                  ∙ ap (λ (xs : List ℕ). lead t.0 ++ xs) (sym (append_assoc (cell_text input t.0.reach) (terms_text input (terms_at input n t.1).0) (terms_at input n t.1).1))
+                  ∙ sym (append_assoc (lead t.0) (cell_text input t.0.reach ++ terms_text input (terms_at input n t.1).0) (terms_at input n t.1).1);
+              short = All-cons (λ (u : Term). IsShort u.reach) t.0 (terms_at input n t.1).0 one.1 more.short;
+              few = omega (arith, more.few);
+            }
       ] refl
 
   nothing_more : term_at input (codes "\n") ≡ None
@@ -168,7 +168,7 @@ module _ (input : List ℕ) where
   terms_again (t ∷ ts) zero h few = absurd (omega arith)
   terms_again (t ∷ ts) (suc n) h few =
       let flat : terms_text input (t ∷ ts) ++ codes "\n" ≡ lead t ++ (cell_text input t.reach ++ (terms_text input ts ++ codes "\n")) =
-          append_assoc (lead t) (cell_text input t.reach ++ terms_text input ts) (codes "\n") ∙ ap (λ (xs : List ℕ). lead t ++ xs) (append_assoc (cell_text input t.reach) (terms_text input ts) (codes "\n")) in
+      append_assoc (lead t) (cell_text input t.reach ++ terms_text input ts) (codes "\n") ∙ ap (λ (xs : List ℕ). lead t ++ xs) (append_assoc (cell_text input t.reach) (terms_text input ts) (codes "\n")) in
       ap (terms_at input (suc n)) flat
       ∙ term_some n (lead t ++ (cell_text input t.reach ++ (terms_text input ts ++ codes "\n"))) (terms_text input ts ++ codes "\n") t (term_again t (terms_text input ts ++ codes "\n") (All-head (λ (u : Term). IsShort u.reach) t ts h))
       ∙ ap (λ (p : List Term × List ℕ). (t ∷ p.0, p.1)) (terms_again ts n (All-tail (λ (u : Term). IsShort u.reach) t ts h) (omega arith))

@@ -45,7 +45,7 @@ summed_more e l r op ts i d x h lt le lr lo =
     let up : i + 1 ≡ suc i = omega arith in
     let next : drop i ts ≡ t ∷ drop (suc i) ts = drop-cons ts i d lt in
     let made : formula_of (Bin op l r) ≡ binary (operator t.minus) (formula_of e) (cell_formula t.reach) =
-        formula_of-Bin op l r ∙ ap (λ o. binary o (formula_of l) (formula_of r)) lo ∙ ap (λ g. binary (operator t.minus) (formula_of g) (formula_of r)) le ∙ ap (λ g. binary (operator t.minus) (formula_of e) g) lr in
+    formula_of-Bin op l r ∙ ap (λ o. binary o (formula_of l) (formula_of r)) lo ∙ ap (λ g. binary (operator t.minus) (formula_of g) (formula_of r)) le ∙ ap (λ g. binary (operator t.minus) (formula_of e) g) lr in
     ap (λ f. summed f (drop (i + 1) ts)) made ∙ ap (λ k. summed (binary (operator t.minus) (formula_of e) (cell_formula t.reach)) (drop k ts)) up
     ∙ ap (summed (formula_of e)) (sym next) ∙ h
 

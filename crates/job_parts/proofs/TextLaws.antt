@@ -37,10 +37,12 @@ lines_takes bs x e =
     let tg = name_behind_takes (codes "(*)\noutput uint8: ") d.0.1 g.0 g.1 in
     let tm = behind_takes (codes "(0) = ") g.0.1 m.0 m.1 in
     let P : Lines × List ℕ → Type 0 = λ y. (bs ≡ lines_text y.0 y.1) × AreNamed y.0 in
-    subst P (some_inj m.2)
-    (ta.0 ∙ ap (λ (xs : List ℕ). codes "kernel: " ++ (a.0.0 ++ xs)) (tb.0 ∙ ap (λ (xs : List ℕ). codes "\nburst width: " ++ (decimal b.0.0 ++ xs)) (tc.0
-    ∙ ap (λ (xs : List ℕ). codes "\nunroll factor: " ++ (decimal c.0.0 ++ xs)) (td.0 ∙ ap (λ (xs : List ℕ). codes "\ninput uint8: " ++ (d.0.0 ++ xs)) (tg.0
-    ∙ ap (λ (xs : List ℕ). codes "(*)\noutput uint8: " ++ (g.0.0 ++ xs)) tm)))), record { kernel = ta.1; input = td.1; output = tg.1 })
+    subst P (some_inj m.2) (
+      ta.0 ∙ ap (λ (xs : List ℕ). codes "kernel: " ++ (a.0.0 ++ xs)) (tb.0 ∙ ap (λ (xs : List ℕ). codes "\nburst width: " ++ (decimal b.0.0 ++ xs)) (tc.0
+          ∙ ap (λ (xs : List ℕ). codes "\nunroll factor: " ++ (decimal c.0.0 ++ xs)) (td.0 ∙ ap (λ (xs : List ℕ). codes "\ninput uint8: " ++ (d.0.0 ++ xs)) (tg.0
+          ∙ ap (λ (xs : List ℕ). codes "(*)\noutput uint8: " ++ (g.0.0 ++ xs)) tm)))),
+      record { kernel = ta.1; input = td.1; output = tg.1 },
+    )
 
 pub lines_again : (l : Lines) (more : List ℕ) → AreNamed l → l.burst < 2 ^ 64 → l.unroll < 2 ^ 64 → lines_at (lines_text l more) ≡ Some (l, more)
 unfolding lines_at

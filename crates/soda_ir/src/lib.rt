@@ -12,7 +12,9 @@ mod value;
 
 pub use expr::{Expr, Offset};
 pub use laws::{arrays_are_defined, arrays_are_one, cell_from_any_store, points_are_numbered};
-pub use names::{behind, is_free_name, is_name, is_reserved, is_some_digits, is_word, is_word_byte};
+pub use names::{
+    behind, is_free_name, is_name, is_reserved, is_some_digits, is_word, is_word_byte,
+};
 pub use plain::{plain_cell, plain_run};
 pub use program::{Border, Param, Parts, Program, Role, Tensor};
 pub use std::alloc::AllocError as NoMemory;
