@@ -2,6 +2,7 @@
 #![tactic(auto)]
 
 mod cells;
+mod laws;
 mod program;
 mod scan;
 mod sum_text;
@@ -9,5 +10,6 @@ mod term;
 mod words;
 
 pub use cells::{array_text, read_cells};
+pub use laws::text_stands_for_one;
 pub use program::{MOST_TEXT, read_program};
 pub use words::{PlainWords, Words, read_words};

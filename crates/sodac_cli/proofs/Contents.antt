@@ -1,0 +1,80 @@
+-- What the run of a job finds in its files, and what it leaves there.
+use Rattle.std.proofs.Common.{◌≡◌, ◌≢◌, ◌⊎◌, ◌<◌, ◌≤◌, ℕ, ◌+◌, ◌*◌, ◌-◌, Bool, true, false, List, [], ◌∷◌, ◌++◌, length, take, drop, unwrap_or, Option, Some, None, Result, Ok, Err, IsErr, OnOk, refl, sym, ap, subst, ◌∙◌, arith, inl, inr, ℤ}
+use Rattle.std.proofs.lemmas.List.{take_all}
+use Rattle.soda_io.specs.declared.error.IoErr.{IoErr}
+use Rattle.soda_io.specs.Store.{Store, Creates, KeepsBytes, KeepsIds, Opens, content, left}
+use Rattle.whole_files.specs.Writing.{WritesWhole}
+use Rattle.soda_ir.specs.Program.{PlainProgram, cells_at}
+use Rattle.job_parts.specs.Cells.{AreCells}
+use Rattle.sodac_cli.specs.Job.{PlainJob}
+use Rattle.sodac_cli.specs.Meaning.{HasProgram, HasUnbuiltInput, Holding, IsBegun, IsFine, IsFront, IsTextOver, IsUnbuiltJob, input, Leaves, most_cells, output_text, text_of}
+use Rattle.sodac_cli.proofs.Running.{cells_short}
+
+there : (old : Option (List ℕ)) → (old ≡ None → ⊥) → (x : List ℕ) × (old ≡ Some x)
+there None h = absurd (h refl)
+there (Some x) h = (x, refl)
+
+-- a name that was opened was there
+pub opened_there : (g : ℕ) (s0 s1 : Store) (name : List ℕ) (i : ℕ) → Opens g s0 s1 name (Ok i) → (x : List ℕ) × (s0.bytes name ≡ Some x)
+opened_there g s0 s1 name i o = there (s0.bytes name) (λ e. let bad : false ≡ true = o.missing e in cc)
+
+module _ (g m : ℕ) (s0 s1 s2 : Store) (j : PlainJob) (i k : ℕ) (o : Opens g s0 s1 j.input (Ok i)) (ii : i ≡ g) (nn : m ≡ g + 1) (cr : Creates m s1 s2 j.output (Ok k)) (kk : k ≡ m) (apart : j.output ≢ j.input) where
+  pub input_kept : s2.bytes j.input ≡ s0.bytes j.input
+  input_kept = cr.emptied.others j.input (λ e. apart (sym e)) ∙ o.bytes j.input
+
+  pub input_name : s2.name i ≡ j.input
+  input_name = cr.ids.name i (omega arith) ∙ o.fresh.name
+
+  pub input_place : s2.place i ≡ 0
+  input_place = cr.places i (omega arith) ∙ o.fresh.place
+
+  -- what a read of the input has still to give is all that it holds
+  pub input_left : (x : List ℕ) → s0.bytes j.input ≡ Some x → left s2 i ≡ x
+  input_left x e =
+      let whole : content s2 i ≡ x = ap (λ (n : List ℕ). unwrap_or (s2.bytes n) []) input_name ∙ ap (λ (b : Option (List ℕ)). unwrap_or b []) (input_kept ∙ e) in
+      ap (λ p. drop p (content s2 i)) input_place ∙ whole
+
+  -- the output is created, and empty
+  module _ (s3 : Store) (keeps : KeepsBytes s2 s3) where
+    pub created_leaves : Leaves s0.bytes s3.bytes j
+    created_leaves = record {
+      others = λ n ne. keeps n ∙ cr.emptied.others n ne ∙ o.bytes n;
+      output = inr ([], keeps j.output ∙ cr.emptied.own, inl refl);
+    }
+
+    module _ (n : ℕ) (more : n ≡ m + 1) (ids : KeepsIds n s2 s3) (p : ℕ) (s4 : Store) (bytes : List ℕ) where
+      output_name : s3.name k ≡ j.output
+      output_name = ids.name k (omega arith) ∙ cr.fresh.name
+
+      pub wrote_others : (r : Result (Unit {0}) IoErr) → WritesWhole p s3 s4 k bytes r → (x : List ℕ) → x ≢ j.output → s4.bytes x ≡ s0.bytes x
+      wrote_others r w x ne = w.others x (λ e. ne (e ∙ output_name)) ∙ keeps x ∙ cr.emptied.others x ne ∙ o.bytes x
+
+      pub wrote_own : (r : Result (Unit {0}) IoErr) → (w : WritesWhole p s3 s4 k bytes r) → s4.bytes j.output ≡ Some (take w.count bytes)
+      wrote_own r w =
+          ap (λ (n : List ℕ). s4.bytes n) (sym output_name) ∙ w.own [] (ap (λ (n : List ℕ). s3.bytes n) output_name ∙ keeps j.output ∙ cr.emptied.own)
+
+      pub wrote_leaves : (f : IsFine s0.bytes j) → bytes ≡ output_text j f.begun.plain f.cells → (r : Result (Unit {0}) IoErr) → WritesWhole p s3 s4 k bytes r → Leaves s0.bytes s4.bytes j
+      wrote_leaves f is r w = record {
+        others = wrote_others r w;
+        output = inr (take w.count bytes, wrote_own r w, inr (f, w.count, ap (take w.count) is));
+      }
+
+      pub wrote_all : (u : Unit {0}) → WritesWhole p s3 s4 k bytes (Ok u) → s4.bytes j.output ≡ Some bytes
+      wrote_all u w = wrote_own (Ok u) w ∙ ap (λ (xs : List ℕ). Some xs) (take_all w.count bytes (omega (arith, w.all)))
+
+-- a file that is opened and can't be used leaves all names
+pub opened_leaves : (s0 s3 : Store) (j : PlainJob) → KeepsBytes s0 s3 → Leaves s0.bytes s3.bytes j
+opened_leaves s0 s3 j keeps = record { others = λ n ne. keeps n; output = inl (keeps j.output) }
+
+module _ (h : Holding) (j : PlainJob) (q : PlainProgram) (program : HasProgram h j q) (small : cells_at q j.rows ≤ most_cells) (bytes : List ℕ) (is : h j.input ≡ Some bytes) where
+  abbrev pub begun : IsBegun h j
+  begun = record { plain = q; program = program; few = small }
+
+  abbrev pub fine : (text : List ℕ) → IsTextOver q j.rows bytes text → IsFine h j
+  fine text t = record { begun = begun; cells = t.cells; input = record { bytes = bytes; there = is; good = t.good } }
+
+  pub not_cells : ((cells : List ℤ) → AreCells (cells_at q j.rows) bytes cells → ⊥) → IsUnbuiltJob h j
+  not_cells none = input (record { begun = begun; bytes = bytes; there = is; none = none })
+
+  pub too_many : (most : ℕ) → most ≡ cells_at q j.rows * 4 → most < length bytes → IsUnbuiltJob h j
+  too_many most e lt = not_cells (λ cells a. omega (arith, cells_short (cells_at q j.rows) bytes cells a))

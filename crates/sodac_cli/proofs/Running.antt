@@ -1,0 +1,71 @@
+-- The program's arrays at the rows of a job.
+use Rattle.std.proofs.Common.{◌≡◌, ℕ, zero, suc, ◌+◌, ◌*◌, ◌<◌, ◌≤◌, ◌^◌, List, [], ◌∷◌, ◌++◌, length, All, ℤ, pos, negsuc, refl, sym, ◌∙◌, ap, subst, arith, slice_index_or, length-append}
+use Rattle.std.specs.Fmt.{decimal, signed_decimal}
+use Rattle.std.proofs.lemmas.Fmt.{length-decimal-le}
+use Rattle.std.proofs.lemmas.Int.{ints}
+use Rattle.std.proofs.lemmas.List.Elements.{All-head, All-tail}
+use Rattle.int_types.specs.IntType.{InRange}
+use Rattle.soda_ir.specs.Points.{listed}
+use Rattle.soda_ir.specs.Program.{HasArrays, HasValues, IsArray, PlainProgram, cells_at, defined_arrays, input_types, place_types}
+use Rattle.soda_ir.specs.Sums.{IsSumProgram, sum_program, uint8}
+use Rattle.job_parts.specs.Cells.{AreCells, array_text, parting, run_of, text_from}
+use Rattle.sodac_cli.specs.Meaning.{text_of}
+
+length-listed : {A : Type 0} (f : ℕ → A) (n : ℕ) → length (listed f n) ≡ n
+length-listed f zero = refl
+length-listed f (suc n) = length-append (listed f n) (f n ∷ []) ∙ ap (λ k. k + 1) (length-listed f n) ∙ omega arith
+
+module _ (q : PlainProgram) (s : IsSumProgram q) (rows : ℕ) where
+  pub rows_are : cells_at q rows ≡ rows
+  rows_are = let one : rows * 1 ≡ rows = omega arith in ap (λ p. cells_at p rows) s.is ∙ one
+
+  pub inputs_there : (cells : List ℤ) → IsArray uint8 (cells_at q rows) cells → HasArrays (cells_at q rows) (input_types q.tensors) (cells ∷ [])
+  inputs_there cells = let P : PlainProgram → Type 0 = λ p. IsArray uint8 (cells_at p rows) cells → HasArrays (cells_at p rows) (input_types p.tensors) (cells ∷ []) in subst P (sym s.is) (λ a. (a, tt))
+
+  pub no_params : HasValues (place_types q.params) []
+  no_params = let P : PlainProgram → Type 0 = λ p. HasValues (place_types p.params) [] in subst P (sym s.is) tt
+
+  pub one_array : (cells : List ℤ) → length (defined_arrays q rows [] (cells ∷ [])) ≡ 1
+  one_array cells = ap (λ p. length (defined_arrays p rows [] (cells ∷ []))) s.is
+
+  pub array_length : (cells : List ℤ) → length (slice_index_or (defined_arrays q rows [] (cells ∷ [])) 0 []) ≡ cells_at q rows
+  array_length cells = let P : PlainProgram → Type 0 = λ p. length (slice_index_or (defined_arrays p rows [] (cells ∷ [])) 0 []) ≡ cells_at p rows in
+      subst P (sym s.is) (length-listed _ (cells_at (sum_program s.kernel s.burst s.unroll s.input s.output s.formula) rows))
+
+  pub one_a_line : run_of q ≡ 1
+  one_a_line = ap run_of s.is
+
+-- an input of good cells is short
+byte_number : (v : ℤ) → InRange uint8 v → (n : ℕ) × (v ≡ pos n) × (n ≤ 255)
+byte_number (pos n) r = (n, refl, omega (arith, ints, r.below))
+byte_number (negsuc n) r = absurd (omega (arith, ints, r.from))
+
+byte_short : (v : ℤ) → InRange uint8 v → length (signed_decimal v) ≤ 3
+byte_short v r =
+    let b = byte_number v r in
+    let three : length (decimal b.0) ≤ 3 = length-decimal-le 3 b.0 (omega arith) (omega (arith, b.2)) (omega (arith, b.2)) in
+    let P : ℤ → Type 0 = λ w. length (signed_decimal w) ≤ 3 in subst P (sym b.1) three
+
+text_short : (cells : List ℤ) (i : ℕ) → All (λ v. InRange uint8 v) cells → length (text_from 1 i cells) ≤ length cells * 4
+text_short [] i h = omega arith
+text_short (v ∷ cells) i h =
+    omega (arith, length-append (signed_decimal v) (parting 1 i ∷ text_from 1 (i + 1) cells), byte_short v (All-head (λ (v : ℤ). InRange uint8 v) v cells h), text_short cells (i + 1) (All-tail (λ (v : ℤ). InRange uint8 v) v cells h))
+
+pub cells_short : (n : ℕ) (bytes : List ℕ) (cells : List ℤ) → AreCells n bytes cells → length bytes ≤ n * 4
+cells_short n bytes cells a =
+    let short = text_short cells 0 a.array.in_range in
+    let e = ap length a.text in
+    let same : length cells * 4 ≡ n * 4 = ap (λ k. k * 4) a.array.whole in
+    omega (arith, short, e, same)
+
+-- the one array of a list
+first_is : (xs : List (List ℤ)) (x : List ℤ) → length xs ≡ 1 → x ≡ slice_index_or xs 0 x → x ≡ slice_index_or xs 0 []
+first_is [] x one e = absurd (omega arith)
+first_is (y ∷ xs) x one e = e
+
+module _ (q : PlainProgram) (s : IsSumProgram q) (rows : ℕ) (cells : List ℤ) (xs : List (List ℤ)) (all : xs ≡ defined_arrays q rows [] (cells ∷ [])) (x : List ℤ) (is : x ≡ slice_index_or xs 0 x) where
+  pub array_is : x ≡ slice_index_or (defined_arrays q rows [] (cells ∷ [])) 0 []
+  array_is = first_is xs x (ap length all ∙ one_array q s rows cells) is ∙ ap (λ ys. slice_index_or ys 0 []) all
+
+  pub text_is : array_text 1 x ≡ text_of q rows cells
+  text_is = ap (array_text 1) array_is ∙ ap (λ r. array_text r (slice_index_or (defined_arrays q rows [] (cells ∷ [])) 0 [])) (sym (one_a_line q s rows))

@@ -1,0 +1,5 @@
+pub mod Lines
+pub mod Job
+pub mod Journal
+pub mod Meaning
+pub mod Stages

@@ -1,0 +1,127 @@
+ghost use Rattle.std.specs.Prelude.{◌≡◌, ◌≢◌, ◌+◌, ◌≤◌, List, ℤ, OnOk, IfOk, IfSome, IfNone, IsErrOf};
+ghost use Rattle.soda_io.specs.Cause.{Rose};
+ghost use Rattle.soda_io.specs.Store.{KeepsBytes};
+ghost use Rattle.soda_ir.specs.Program.{IsArray, cells_at, plain};
+ghost use Rattle.soda_ir.specs.Sums.{uint8};
+ghost use Rattle.job_parts.specs.Cells.{AreCells};
+ghost use Rattle.job_parts.specs.SumText.{most_text};
+ghost use Rattle.sodac_cli.specs.Job.{array_files, job_files, job_of};
+ghost use Rattle.sodac_cli.specs.Journal.{Asks};
+ghost use Rattle.sodac_cli.specs.Meaning.{IsTextOver, text_of, Before, Faults, HasProgram, IsAfterWords, Leaves, Tells, most_cells};
+ghost use Rattle.sodac_cli.specs.Stages.{TextBytes, TextLog};
+
+use crate::Status;
+use job_parts::{MOST_TEXT, PlainWords, array_text, read_cells, read_program};
+use soda_io::{FileRole, Files, IoErr};
+use soda_ir::{NoMemory, Program, plain_run};
+use sqlite_items::Items;
+use std::alloc::Global;
+use whole_files::{ReadFail, read_whole, write_whole};
+
+/// The most cells of an array.
+pub(crate) const MOST_CELLS: u64 = 16_777_216;
+
+/// The most bytes of a cell with its line feed.
+const MOST_CELL_BYTES: usize = 4;
+
+// Opens the program's file and reads it.
+pub(crate) fn read_text<F: Files>(
+    alloc: Global,
+    files: &mut F,
+    name: &str,
+) -> Result<Vec<u8>, ReadFail>
+    ensures given { OnOk result (F.given files.new ≡ F.given files.old + 1) }
+    ensures log { F.tells → TextLog (F.given files.old) (F.store files.old) (F.store files.new) name.now result }
+    ensures keeps { F.tells → KeepsBytes (F.store files.old) (F.store files.new) }
+    ensures bytes { F.tells → TextBytes (F.store files.old) name.now result }
+    ensures later { F.faults files.old ≤ F.faults files.new }
+    ensures kept { OnOk result (F.faults files.new ≡ F.faults files.old) }
+    ensures kept_too_long { IsErrOf result ReadFail.TooLong → F.faults files.new ≡ F.faults files.old }
+    ensures failed { IsErrOf result ReadFail.Failed → Rose (F.faults files.old) (F.faults files.new) }
+{
+    match files.open(name) {
+        Ok(id) => read_whole(alloc, files, id, MOST_TEXT),
+        Err(IoErr::Failed) => Err(ReadFail::Failed),
+        Err(IoErr::Memory) => Err(ReadFail::Memory),
+    }
+}
+
+// The bytes of the output's array over an input's cells.
+fn output_text(
+    alloc: Global,
+    program: &Program,
+    rows: u64,
+    cells: Items<i128>,
+) -> Result<Vec<u8>, NoMemory>
+    requires small { cells_at (plain program.now) rows ≤ most_cells }
+    requires array { IsArray uint8 (cells_at (plain program.now) rows) cells }
+    ensures { IfOk result (λ text. text.items ≡ text_of (plain program.now) rows cells) }
+{
+    let _valid = program.parts();
+    let arrays = plain_run(alloc, program, rows, &[cells], &[])?;
+    array_text(alloc, arrays.as_slice()[0].as_slice(), 1)
+}
+
+// The bytes of the output's array over an input's bytes, and None where they aren't exactly as many good cells.
+fn text_over(
+    alloc: Global,
+    program: &Program,
+    rows: u64,
+    input: &[u8],
+) -> Result<Option<Vec<u8>>, NoMemory>
+    requires { cells_at (plain program.now) rows ≤ most_cells }
+    ensures found { IfOk result (λ found. IfSome found (λ text. IsTextOver (plain program.now) rows input.now text.items)) }
+    ensures none { IfOk result (λ found. IfNone found ((cells : List ℤ) → AreCells (cells_at (plain program.now) rows) input.now cells → ⊥)) }
+{
+    let _valid = program.parts();
+    match read_cells(alloc, input, rows)? {
+        Some(cells) => Ok(Some(output_text(alloc, program, rows, cells)?)),
+        None => Ok(None),
+    }
+}
+
+// Reads the input and writes the output.
+pub(crate) fn run<F: Files>(
+    alloc: Global,
+    program: &Program,
+    job: &PlainWords,
+    files: &mut F,
+) -> Status
+    requires apart { job.now.output.now ≢ job.now.input.now }
+    requires small { cells_at (plain program.now) job.now.rows ≤ most_cells }
+    requires program { F.tells → HasProgram (F.store files.old).bytes (job_of job.now) (plain program.now) }
+    ensures begun { IsAfterWords result }
+    ensures asks { F.tells → Asks (F.given files.old) (F.store files.old) (F.store files.new) (array_files job.now.input.now job.now.output.now) (λ k. Unit {0}) result }
+    ensures leaves { F.tells → Leaves (F.store files.old).bytes (F.store files.new).bytes (job_of job.now) }
+    ensures tells { F.tells → Tells (F.store files.old).bytes (F.store files.new).bytes (job_of job.now) result }
+    ensures faults { Faults (F.faults files.old) (F.faults files.new) result }
+{
+    let _valid = program.parts();
+    let input = match files.open(job.input) {
+        Ok(id) => id,
+        Err(IoErr::Failed) => return Status::FileFault(FileRole::Input(0)),
+        Err(IoErr::Memory) => return Status::Memory,
+    };
+    let output = match files.create(job.output) {
+        Ok(id) => id,
+        Err(IoErr::Failed) => return Status::FileFault(FileRole::Output(0)),
+        Err(IoErr::Memory) => return Status::Memory,
+    };
+    let most = job.rows as usize * MOST_CELL_BYTES;
+    let bytes = match read_whole(alloc, files, input, most) {
+        Ok(bytes) => bytes,
+        Err(ReadFail::TooLong) => return Status::NotYetBuilt,
+        Err(ReadFail::Failed) => return Status::FileFault(FileRole::Input(0)),
+        Err(ReadFail::Memory) => return Status::Memory,
+    };
+    let text = match text_over(alloc, program, job.rows, &bytes) {
+        Ok(Some(text)) => text,
+        Ok(None) => return Status::NotYetBuilt,
+        Err(_) => return Status::Memory,
+    };
+    match write_whole(files, output, &text) {
+        Ok(()) => Status::Ok,
+        Err(IoErr::Failed) => Status::FileFault(FileRole::Output(0)),
+        Err(IoErr::Memory) => Status::Memory,
+    }
+}

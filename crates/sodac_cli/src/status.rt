@@ -1,0 +1,34 @@
+ghost use Rattle.std.specs.Prelude.{◌≡◌};
+ghost use Rattle.sodac_cli.specs.Lines.{number_of};
+
+use soda_io::FileRole;
+
+/// How a job ended.
+#[derive(Clone, Copy, Debug, PartialEq, Eq)]
+pub enum Status {
+    /// The job was done.
+    Ok,
+    /// The words aren't taken.
+    Usage,
+    /// A call on the file of this role failed.
+    FileFault(FileRole),
+    /// Want of memory.
+    Memory,
+    /// The words, the program or the input ask for what isn't built yet.
+    NotYetBuilt,
+}
+
+impl Status {
+    /// The number that the program ends with.
+    pub fn number(self) -> u8
+        ensures { result ≡ number_of self }
+    {
+        match self {
+            Status::Ok => 0,
+            Status::Usage => 2,
+            Status::FileFault(_) => 5,
+            Status::Memory => 7,
+            Status::NotYetBuilt => 10,
+        }
+    }
+}

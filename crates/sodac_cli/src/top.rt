@@ -1,0 +1,76 @@
+ghost use Rattle.std.specs.Prelude.{◌≡◌, ◌⊎◌, ℕ};
+ghost use Rattle.soda_io.specs.Cause.{Rose};
+ghost use Rattle.sodac_cli.specs.declared.status.Status.TheVariants as is;
+ghost use Rattle.sodac_cli.specs.Job.{AsksFor, PlainJob, job_files};
+ghost use Rattle.sodac_cli.specs.Journal.{Asks};
+ghost use Rattle.sodac_cli.specs.Lines.{Reports};
+ghost use Rattle.sodac_cli.specs.Meaning.{Before, Faults, HasUnbuiltMode, IsFine, IsRefused, IsUnbuiltJob, Leaves, Tells, Untouched, WordsSay};
+ghost use Rattle.job_parts.specs.Words.{TakesWords};
+
+use crate::Status;
+use crate::plain::plain;
+use crate::report::report;
+use job_parts::{Words, read_words, text_stands_for_one};
+use soda_io::{Files, Sink};
+use std::alloc::Global;
+
+// Does what the words say.
+fn job<F: Files>(alloc: Global, words: &[String], files: &mut F) -> Status
+    ensures words { WordsSay words.now result }
+    ensures untouched { (¬ TakesWords words.now) ⊎ HasUnbuiltMode words.now → F.tells → Untouched (F.store files.old) (F.store files.new) }
+    ensures refused { HasUnbuiltMode words.now → IsRefused result }
+    ensures asks { (j : PlainJob) → AsksFor words.now j → F.tells → Asks (F.given files.old) (F.store files.old) (F.store files.new) (job_files j) (Before (F.store files.old).bytes j) result }
+    ensures leaves { (j : PlainJob) → AsksFor words.now j → F.tells → Leaves (F.store files.old).bytes (F.store files.new).bytes j }
+    ensures tells { (j : PlainJob) → AsksFor words.now j → F.tells → Tells (F.store files.old).bytes (F.store files.new).bytes j result }
+    ensures faults { Faults (F.faults files.old) (F.faults files.new) result }
+{
+    match read_words(words) {
+        Words::Untaken => Status::Usage,
+        Words::Unbuilt => Status::NotYetBuilt,
+        Words::Plain(words) => plain(alloc, &words, files),
+    }
+}
+
+/// Does what the words say over the files, and reports to `err` what it doesn't do. The first word is the program's own
+/// name; `out` takes nothing in the modes that are built so far.
+///
+/// The status is that of the first refusal or fault: the words, the program's file, the program's text, the limit on
+/// cells, opening the input, creating the output, reading the input, its cells, and writing the output. Want of memory may
+/// come in place of any.
+pub fn execute<F: Files, S: Sink, E: Sink>(
+    alloc: Global,
+    words: &[String],
+    files: &mut F,
+    out: &mut S,
+    err: &mut E,
+) -> Status
+    // `Usage` comes exactly where the words aren't taken, want of memory aside.
+    ensures words { WordsSay words.now result }
+    // Where they aren't, or name a mode that isn't built, no file is asked for.
+    ensures untouched { (¬ TakesWords words.now) ⊎ HasUnbuiltMode words.now → F.tells → Untouched (F.store files.old) (F.store files.new) }
+    // A mode that isn't built is refused as such, want of memory aside.
+    ensures refused { HasUnbuiltMode words.now → IsRefused result }
+    // What is asked of the files, by the journal of calls, and which fault it ends with.
+    ensures asks { (j : PlainJob) → AsksFor words.now j → F.tells → Asks (F.given files.old) (F.store files.old) (F.store files.new) (job_files j) (Before (F.store files.old).bytes j) result }
+    // No name but the output's changes, and a created output holds a front of its bytes.
+    ensures leaves { (j : PlainJob) → AsksFor words.now j → F.tells → Leaves (F.store files.old).bytes (F.store files.new).bytes j }
+    // Each status has its cause, and none before it holds; at Ok the output holds the text of the defined array.
+    ensures tells { (j : PlainJob) → AsksFor words.now j → F.tells → Tells (F.store files.old).bytes (F.store files.new).bytes j result }
+    // No fault is passed over, and each has its count.
+    ensures faults { Faults (F.faults files.old) (F.faults files.new) result }
+    // Nothing is printed.
+    ensures prints { S.tells → S.taken out.new ≡ S.taken out.old }
+    ensures prints_without_fault { S.faults out.new ≡ S.faults out.old }
+    // The line of the status, or a front of it.
+    ensures reports { E.tells → Reports (E.taken err.old) (E.taken err.new) (E.faults err.old) (E.faults err.new) result }
+    // With nothing amiss it is done, but for want of memory.
+    ensures complete { (j : PlainJob) → AsksFor words.now j → F.tells → IsFine (F.store files.old).bytes j
+        → ¬ Rose (F.faults files.old) (F.faults files.new) → (result ≡ is.Ok) ⊎ (result ≡ is.Memory) }
+    // What isn't built is refused as such, but for a fault before it and for want of memory.
+    ensures unbuilt { (j : PlainJob) → AsksFor words.now j → F.tells → IsUnbuiltJob (F.store files.old).bytes j
+        → ¬ Rose (F.faults files.old) (F.faults files.new) → (result ≡ is.NotYetBuilt) ⊎ (result ≡ is.Memory) }
+{
+    text_stands_for_one();
+    let status = job(alloc, words, files);
+    report(alloc, status, err)
+}
