@@ -1,11 +1,13 @@
 -- Laws of what journals say.
-use Rattle.std.proofs.Common.{◌≡◌, ◌≢◌, ◌==◌, ◌<◌, ◌≤◌, ℕ, ◌+◌, Bool, true, false, if◌then◌else◌, List, [], ◌∷◌, ◌++◌, length, Option, Some, None, Result, Ok, Err, All, IsErrOf, refl, sym, ap, subst, ◌∙◌, arith, ◌↔◌}
+use Rattle.std.proofs.Common.{◌≡◌, ◌≢◌, ◌==◌, ◌≤◌, ℕ, Bool, true, false, if◌then◌else◌, List, [], ◌∷◌, ◌++◌, Option, Some, None, Result, Ok, Err, All, IsErrOf, refl, sym, ap, subst, ◌∙◌, arith, ◌↔◌, ◌⊎◌, inl, inr}
 use Rattle.std.proofs.lemmas.Bool.{ne_eqb, false≢true}
+use Rattle.std.proofs.lemmas.List.{append-nil}
 use Rattle.std.proofs.lemmas.List.Elements.{All-append, All-cons, All-nil, All-head, All-tail, All-weaker}
 use Rattle.soda_io.specs.declared.error.IoErr.{IoErr}
 use Rattle.soda_io.specs.declared.error.IoErr.TheVariants as io
 use Rattle.soda_io.specs.declared.call.FileCall.{FileCall}
 use Rattle.soda_io.specs.declared.call.FileCall.TheVariants.{Open, Create, Read, Write}
+use Rattle.soda_io.specs.Store.{named, NamesGiven}
 use Rattle.whole_files.specs.declared.reading.ReadFail.{ReadFail}
 use Rattle.whole_files.specs.declared.reading.ReadFail.TheVariants as fail
 use Rattle.whole_files.specs.Journal.{IsFailed, IsReadBy, IsWriteBy, IsGot, IsTaken, gots, NoneAfterEnd, NoneAfterFailed, EndsFailed, ReadsOf, WritesOf}
@@ -66,6 +68,34 @@ pub none_fails : (xs : List FileCall) → All NotFailed xs → EndsFailed xs →
 none_fails [] all ends = ends
 none_fails (x ∷ []) all ends = All-head NotFailed x [] all ends
 none_fails (x ∷ y ∷ ys) all ends = none_fails (y ∷ ys) (All-tail NotFailed x (y ∷ ys) all) ends
+
+-- where none follows a failed one and the last isn't one, none failed
+pub not_failed_of : (es : List FileCall) → NoneAfterFailed es → (EndsFailed es → ⊥) → All NotFailed es
+not_failed_of [] last ends = All-nil NotFailed
+not_failed_of (e ∷ []) last ends = All-cons NotFailed e [] ends (All-nil NotFailed)
+not_failed_of (e ∷ f ∷ es) last ends =
+    let here : NotFailed e = λ is. let none : f ∷ es ≡ [] = last.0 is in absurd (cc) in
+    All-cons NotFailed e (f ∷ es) here (not_failed_of (f ∷ es) last.1 ends)
+
+-- reads by one id show none of another, and writes show none at all
+pub gots_of_other : (id k : ℕ) → k ≢ id → (es : List FileCall) → All (IsReadBy id) es → gots k es ≡ []
+gots_of_other id k ne es own = gots_none (IsReadBy id) k (λ i asked got same is. ne (sym is ∙ same)) es own
+
+pub gots_of_writes : (id k : ℕ) → (es : List FileCall) → All (IsWriteBy id) es → gots k es ≡ []
+gots_of_writes id k es own = gots_none (IsWriteBy id) k (λ i asked got is. absurd is) es own
+
+-- a journal shows no read of an id that wasn't given
+pub gots_fresh : (given id : ℕ) → given ≤ id → (es : List FileCall) → NamesGiven given es → gots id es ≡ []
+gots_fresh given id fresh es known = gots_none (λ e. named e ≤ given) id (λ i asked got le is. absurd (omega arith)) es known
+
+-- two parts of which at most one shows reads of an id
+pub none_after_end_apart : (id : ℕ) (xs ys : List FileCall) → NoneAfterEnd (gots id xs) → NoneAfterEnd (gots id ys) → (gots id xs ≡ []) ⊎ (gots id ys ≡ []) → NoneAfterEnd (gots id (xs ++ ys))
+none_after_end_apart id xs ys first second apart =
+    let P : List (Option ℕ) → Type 0 = λ gs. NoneAfterEnd gs in
+    subst P (sym (gots-append id xs ys)) (elim apart [
+      | inl none ↦ let Q : List (Option ℕ) → Type 0 = λ gs. NoneAfterEnd (gs ++ gots id ys) in subst Q (sym none) second
+      | inr none ↦ let Q : List (Option ℕ) → Type 0 = λ gs. NoneAfterEnd (gots id xs ++ gs) in subst Q (sym none) (subst P (sym (append-nil (gots id xs))) first)
+    ])
 
 -- reads that got some bytes
 got_own : (id : ℕ) (e : FileCall) → IsGot id e → IsReadBy id e

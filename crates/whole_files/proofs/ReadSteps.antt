@@ -1,5 +1,5 @@
 -- One more read.
-use Rattle.std.proofs.Common.{◌≡◌, ◌≢◌, ◌+◌, ◌<◌, ◌≤◌, ℕ, List, [], ◌∷◌, ◌++◌, length, take, drop, Option, Some, None, Result, Ok, Err, refl, sym, ap, subst, ◌∙◌, arith, append_assoc, unwrap_or}
+use Rattle.std.proofs.Common.{◌≡◌, ◌≢◌, ◌+◌, ◌<◌, ◌≤◌, ℕ, List, [], ◌∷◌, ◌++◌, length, take, drop, Option, Some, Result, Ok, Err, refl, sym, ap, subst, ◌∙◌, arith, append_assoc, unwrap_or, length-append}
 use Rattle.std.proofs.lemmas.List.{append-nil, take-append-le}
 use Rattle.std.proofs.lemmas.List.Elements.{All-push}
 use Rattle.soda_io.specs.declared.error.IoErr.{IoErr}
@@ -44,6 +44,9 @@ took_more given a b c id asked n xs buf t r some = record {
   gots = All-push (IsGot id) t.entries (Read id asked (Some n)) t.gots (refl, some);
   calls = r.calls ∙ ap (λ (es : List FileCall). es ++ Read id asked (Some n) ∷ []) t.calls ∙ append_assoc a.calls t.entries (Read id asked (Some n) ∷ []);
 }
+
+pub took_length : (given : ℕ) (a b : Store) (id : ℕ) (xs : List ℕ) → Took given a b id xs → length (left a id) ≡ length xs + length (left b id)
+took_length given a b id xs t = ap (λ (ys : List ℕ). length ys) t.got ∙ length-append xs (left b id)
 
 -- what was copied from the front of a buffer
 pub copied : (n : ℕ) (xs buf rest ys : List ℕ) → n ≤ length buf → ys ≡ xs ++ take n (buf ++ rest) → ys ≡ xs ++ take n buf

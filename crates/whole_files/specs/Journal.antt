@@ -1,5 +1,5 @@
 -- What the entries that a call adds to a journal say, in forms that are put together part by part.
-use Rattle.std.specs.Prelude.{◌≡◌, ◌==◌, ℕ, ◌<◌, if◌then◌else◌, List, [], ◌∷◌, Some, None, All, IsSome, IsNone, ⊤}
+use Rattle.std.specs.Prelude.{◌≡◌, ◌==◌, ℕ, ◌<◌, if◌then◌else◌, List, [], ◌∷◌, Some, None, All, IsNone, ⊤}
 use Rattle.std.specs.Prelude.{Option}
 use Rattle.soda_io.specs.declared.call.FileCall.{FileCall}
 use Rattle.soda_io.specs.declared.call.FileCall.TheVariants.{Open, Create, Read, Write}

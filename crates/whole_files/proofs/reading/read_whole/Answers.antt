@@ -1,10 +1,9 @@
-use Rattle.std.proofs.Common.{◌≡◌, ◌≤◌, ◌<◌, ◌++◌, ◌+◌, ◌-◌, ℕ, List, length, take, drop, refl, sym, ap, subst, ◌∙◌, arith, length-append, length-drop}
+use Rattle.std.proofs.Common.{◌≡◌, ◌++◌, ◌+◌, ℕ, List, length, take, drop, refl, sym, ap, subst, ◌∙◌, arith, length-append, length-drop}
 use Rattle.std.proofs.Common.{Result, Ok, Err}
 use Rattle.std.proofs.lemmas.List.{length-take}
 use Rattle.soda_io.specs.declared.error.IoErr.{IoErr}
-use Rattle.soda_io.specs.Store.{left}
 use Rattle.whole_files.specs.Reading.{Took}
-use Rattle.whole_files.proofs.ReadSteps.{at, took_none, took_more, copied, stopped, failed, no_memory, at_end, whole}
+use Rattle.whole_files.proofs.ReadSteps.{at, took_none, took_more, took_length, copied, stopped, failed, no_memory, at_end, whole}
 use Rattle.whole_files.proofs.reading.read_whole.Goals as goal
 
 abbrev ok : ℕ → Result ℕ IoErr
@@ -67,9 +66,7 @@ pub returns-clause-store : goal.returns-clause-store
 returns-clause-store g c = λ told. stopped _ _ _ _ _ _ c.requires.given (c.loop-block.invariant.took told) _ refl (omega (arith, c.loop-block.bytes.ok.0, c.len.ensures))
 
 pub returns-clause-too_long : goal.returns-clause-too_long
-returns-clause-too_long g c = λ told _.
-    let t = c.loop-block.invariant.took told in
-    omega (arith, ap length t.got, length-append c.loop-block.bytes.items (left (g.F.Files.store c.loop-block.files) c.args.id), c.len.ensures, c.loop-block.bytes.ok.0)
+returns-clause-too_long g c = λ told _. omega (arith, took_length _ _ _ _ _ (c.loop-block.invariant.took told), c.len.ensures, c.loop-block.bytes.ok.0)
 
 pub returns-in_default-clause-store : goal.returns-in_default-clause-store
 returns-in_default-clause-store g c = λ told.
