@@ -1,0 +1,9 @@
+pub mod Distinct
+pub mod Ends
+pub mod Effects
+pub mod Steps
+pub mod Rings
+pub mod CycleSteps
+pub mod Bounds
+pub mod Listing
+pub mod Scans

@@ -1,0 +1,6 @@
+pub mod Nets
+pub mod Firings
+pub mod States
+pub mod Waits
+pub mod CycleRun
+pub mod Table

@@ -1,0 +1,13 @@
+//! Networks of modules and queues, and the machine that counts their firings and events.
+#![tactic(auto)]
+
+mod counts;
+mod cycle;
+mod events;
+mod moves;
+mod network;
+
+pub use counts::{Counts, can_step, finished, step, waits_for};
+pub use cycle::{CycleCount, count_cycle};
+pub use events::{Event, Turn};
+pub use network::{Module, Network, NoMemory, Queue};
