@@ -7,3 +7,4 @@ pub mod CycleSteps
 pub mod Bounds
 pub mod Listing
 pub mod Scans
+pub mod Facts

@@ -1,11 +1,11 @@
-ghost use Rattle.std.specs.Prelude.{◌≡◌, ◌≢◌, ◌<◌, ◌≤◌, ◌↔◌, ◌⊎◌, ℕ, true, false, map, length, slice_set, IfOk, IsTrue, IsNone};
-ghost use Rattle.net_ir.specs.Nets.{IsOrderly};
+ghost use Rattle.std.specs.Prelude.{◌≡◌, ◌≢◌, ◌<◌, ◌^◌, ◌↔◌, ◌⊎◌, ℕ, true, false, map, length, slice_set, IfOk, IsTrue, IsNone};
+ghost use Rattle.net_ir.specs.Nets.{IsNetwork, IsOrderly};
 ghost use Rattle.net_ir.specs.Firings.{firings_at};
 ghost use Rattle.net_ir.specs.States.{unmoved, turn_at, taken, sent, zeros, after, is_possible, has_firing, can_step, waits_for, IsKnown, IsEvent, IsLawful, IsFinished};
 ghost use Rattle.net_ir.specs.Waits.{NoRing, GoesOn};
 
 use crate::events::{Event, Turn};
-use crate::moves::{next_event, queue_of, sent_by, taken_by};
+use crate::moves::{next_event, queue_of, sent_by, taken_by, turn_after};
 use crate::network::{Module, Network, NoMemory, Queue};
 use std::alloc::Global;
 use std::marker::Model;
@@ -73,7 +73,9 @@ impl Counts {
         requires { «module» < length self.now.network.modules }
         ensures value { result ≡ turn_at self.now.state «module» }
         ensures lawful { IsLawful self.now.network self.now.firings self.now.state }
+        ensures small { self.now.firings < 2 ^ 64 }
     {
+        let _firings = self.firings;
         self.turns[module as usize]
     }
 
@@ -123,7 +125,8 @@ pub(crate) fn firings_of(net: &Network, counts: &Counts, module: u32) -> u64
 fn taken(net: &Network, counts: &Counts, queue: u32) -> u64
     requires started { counts.now.network ≡ net.now }
     requires known { queue < length net.now.queues }
-    ensures { result ≡ taken net.now counts.now.state queue }
+    ensures value { result ≡ taken net.now counts.now.state queue }
+    ensures lawful { IsLawful net.now counts.now.firings counts.now.state }
 {
     let to = queue_of(net, queue).to;
     let turn = counts.turn(to);
@@ -134,7 +137,8 @@ fn taken(net: &Network, counts: &Counts, queue: u32) -> u64
 fn sent(net: &Network, counts: &Counts, queue: u32) -> u64
     requires started { counts.now.network ≡ net.now }
     requires known { queue < length net.now.queues }
-    ensures { result ≡ sent net.now counts.now.state queue }
+    ensures value { result ≡ sent net.now counts.now.state queue }
+    ensures lawful { IsLawful net.now counts.now.firings counts.now.state }
 {
     let from = queue_of(net, queue).from;
     let turn = counts.turn(from);
@@ -179,17 +183,29 @@ pub fn step(net: &Network, counts: &mut Counts, module: u32)
     ensures lawful { IsLawful net.now counts.new.firings counts.new.state }
 {
     let turn = counts.turn(module);
-    let next = match next_event(net, module, turn) {
-        Event::Take(_) | Event::Send(_) => Turn {
-            fired: turn.fired,
-            part: turn.part + 1,
-        },
-        Event::Close => Turn {
-            fired: turn.fired + 1,
-            part: 0,
-        },
-    };
+    let next = turn_after(next_event(net, module, turn), turn);
     counts.set_turn(module, next);
+}
+
+/// The module that a module waits for.
+fn other_end(net: &Network, counts: &Counts, module: u32) -> Option<u32>
+    requires started { counts.now.network ≡ net.now }
+    requires known { «module» < length net.now.modules }
+    ensures value { result ≡ waits_for net.now counts.now.firings counts.now.state «module» }
+    ensures lawful { IsLawful net.now counts.now.firings counts.now.state }
+    ensures network { IsNetwork net.now }
+{
+    let turn = counts.turn(module);
+    let event = next_event(net, module, turn);
+    let can = turn.fired < firings_of(net, counts, module);
+    if !can || is_possible(net, counts, event) {
+        return None;
+    }
+    match event {
+        Event::Take(queue) => Some(queue_of(net, queue).from),
+        Event::Send(queue) => Some(queue_of(net, queue).to),
+        Event::Close => None,
+    }
 }
 
 /// The module at the other end of the queue that stops a module's next event. None exactly where the module has no
@@ -201,19 +217,24 @@ pub fn waits_for(net: &Network, counts: &Counts, module: u32) -> Option<u32>
     ensures none { IsNone result ↔ ((has_firing net.now counts.now.firings counts.now.state «module» ≡ false) ⊎ (can_step net.now counts.now.firings counts.now.state «module» ≡ true)) }
     ensures no_ring { IsOrderly net.now → NoRing net.now counts.now.firings counts.now.state }
 {
-    let turn = counts.turn(module);
-    if turn.fired >= firings_of(net, counts, module) {
-        return None;
+    other_end(net, counts, module)
+}
+
+/// Whether all modules have done their firings.
+fn all_done(net: &Network, counts: &Counts) -> bool
+    requires started { counts.now.network ≡ net.now }
+    ensures value { IsTrue result ↔ IsFinished net.now counts.now.firings counts.now.state }
+    ensures lawful { IsLawful net.now counts.now.firings counts.now.state }
+    ensures network { IsNetwork net.now }
+{
+    let modules = net.modules();
+    let _firings = counts.firings();
+    for module in 0..modules.len() as u32 {
+        if counts.turn(module).fired != firings_of(net, counts, module) {
+            return false;
+        }
     }
-    let event = next_event(net, module, turn);
-    if is_possible(net, counts, event) {
-        return None;
-    }
-    match event {
-        Event::Take(queue) => Some(queue_of(net, queue).from),
-        Event::Send(queue) => Some(queue_of(net, queue).to),
-        Event::Close => None,
-    }
+    true
 }
 
 /// Whether no module has a firing left.
@@ -222,10 +243,5 @@ pub fn finished(net: &Network, counts: &Counts) -> bool
     ensures value { IsTrue result ↔ IsFinished net.now counts.now.firings counts.now.state }
     ensures goes_on { IsOrderly net.now → GoesOn net.now counts.now.firings counts.now.state }
 {
-    for module in 0..net.modules().len() as u32 {
-        if counts.turn(module).fired != firings_of(net, counts, module) {
-            return false;
-        }
-    }
-    true
+    all_done(net, counts)
 }

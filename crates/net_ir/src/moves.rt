@@ -1,8 +1,9 @@
 ghost use Rattle.std.specs.Prelude.{◌≡◌, ◌<◌, ◌≤◌, ◌+◌, ◌^◌, nat_eq, length};
 ghost use Rattle.std.specs.List.{list_any};
-ghost use Rattle.net_ir.specs.Nets.{queue_at};
+ghost use Rattle.net_ir.specs.Nets.{queue_at, IsNetwork};
+ghost use Rattle.net_ir.specs.declared.events.Event.{Event};
 ghost use Rattle.net_ir.specs.Firings.{takes};
-ghost use Rattle.net_ir.specs.States.{taken_now, sent_now, taken_by, sent_by, next_event, IsKnown};
+ghost use Rattle.net_ir.specs.States.{taken_now, sent_now, taken_by, sent_by, next_event, turn_after, IsKnown};
 
 use crate::events::{Event, Turn};
 use crate::network::{Network, Queue};
@@ -22,6 +23,8 @@ pub(crate) fn next_event(net: &Network, module: u32, turn: Turn) -> Event
     requires { «module» < length net.now.modules }
     ensures value { result ≡ next_event net.now «module» turn }
     ensures known { IsKnown net.now result }
+    ensures fits { (result ≡ Event.Close → ⊥) → turn.part + 1 < 2 ^ 32 }
+    ensures network { IsNetwork net.now }
 {
     let ports = net.entrances(module);
     let sends = net.exits(module);
@@ -127,5 +130,23 @@ pub(crate) fn sent_by(net: &Network, number: u32, turn: Turn) -> u64
         turn.fired + 1
     } else {
         turn.fired
+    }
+}
+
+/// How far a module has come after an event.
+pub(crate) fn turn_after(event: Event, turn: Turn) -> Turn
+    requires part { (event ≡ Event.Close → ⊥) → turn.part + 1 < 2 ^ 32 }
+    requires fired { turn.fired + 1 < 2 ^ 64 }
+    ensures { result ≡ turn_after event turn }
+{
+    match event {
+        Event::Take(_) | Event::Send(_) => Turn {
+            fired: turn.fired,
+            part: turn.part + 1,
+        },
+        Event::Close => Turn {
+            fired: turn.fired + 1,
+            part: 0,
+        },
     }
 }

@@ -121,6 +121,7 @@ impl Network {
         requires { «module» < length self.now.modules }
         ensures value { result.now ≡ entrances self.now «module» }
         ensures known { All (λ n. n < length self.now.queues) (entrances self.now «module») }
+        ensures network { IsNetwork self.now }
         ensures few { length (entrances self.now «module») + length (exits self.now «module») ≤ length self.now.queues }
         ensures small { length self.now.queues < 2 ^ 32 }
     {

@@ -2,6 +2,7 @@ use Rattle.std.proofs.Common.{◌≡◌, ◌<◌, ◌≤◌, ◌∙◌, ◌+◌,
 use Rattle.net_ir.specs.declared.network.Queue.{Queue}
 use Rattle.net_ir.specs.declared.events.Event.TheVariants.{Send, Close}
 use Rattle.net_ir.proofs.Effects.{event_list}
+use Rattle.net_ir.proofs.Facts.{part_fits}
 use Rattle.net_ir.proofs.Scans.{ready, next_is, take_found, take_passed, port_passed, send_found, close_found}
 use Rattle.net_ir.proofs.moves.next_event.Goals as goal
 use Rattle.net_ir.proofs.moves.next_event.Goals.{then-queue_of-turn+else-left-eq0, else-queue_of-turn}
@@ -33,3 +34,11 @@ pub returns-in-None-clause-value : goal.returns-in-None-clause-value
 returns-in-None-clause-value c =
     next_is c.args.net.now c.args.module c.args.turn c.entrances-ports.result.now c.exits-sends.result.now _ c.entrances-ports.ensures.value c.exits-sends.ensures.value
       (c.loop-queue.invariant ∙ close_found c.args.net.now.queues c.args.turn.fired c.entrances-ports.result.now c.exits-sends.result.now c.loop-queue.queue-index c.loop-queue.left c.loop-queue-test.false c.in-None.ensures.lookup.3)
+
+pub returns-then-left-eq0-clause-fits : goal.returns-then-left-eq0-clause-fits
+returns-then-left-eq0-clause-fits c =
+    λ ne. part_fits c.args.net.now c.args.module c.args.turn c.entrances-ports.ensures.few c.entrances-ports.ensures.small (λ e. ne (returns-then-left-eq0-clause-value c ∙ e))
+
+pub returns-in-Some-clause-fits : goal.returns-in-Some-clause-fits
+returns-in-Some-clause-fits c =
+    λ ne. part_fits c.args.net.now c.args.module c.args.turn c.entrances-ports.ensures.few c.entrances-ports.ensures.small (λ e. ne (returns-in-Some-clause-value c ∙ e))

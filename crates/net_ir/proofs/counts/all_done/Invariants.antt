@@ -1,7 +1,7 @@
 use Rattle.std.proofs.Common.{◌≡◌, ◌<◌, ℕ}
 use Rattle.net_ir.specs.Firings.{firings_at}
 use Rattle.net_ir.specs.States.{turn_at}
-use Rattle.net_ir.proofs.counts.finished.Given as goal
+use Rattle.net_ir.proofs.counts.all_done.Given as goal
 
 abbrev pub invariant-loop-module : goal.invariant-loop-module
 invariant-loop-module l =
