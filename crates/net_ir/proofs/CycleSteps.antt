@@ -1,5 +1,5 @@
 -- A visit of a cycle, and a whole cycle, is a run of events.
-use Rattle.std.proofs.Common.{◌≡◌, ◌≢◌, ◌<◌, ◌≤◌, ◌+◌, ◌-◌, ◌==◌, nat_lt, nat_le, ℕ, zero, suc, Bool, true, false, not, ◌&&◌, cond, List, [], ◌∷◌, ◌++◌, length, length-set, get_or, set, map, refl, sym, ap, ◌∙◌, subst, ⊎_elim, arith, rules, get_or-set_same, get_or-set_other}
+use Rattle.std.proofs.Common.{◌≡◌, ◌≢◌, ◌<◌, ◌≤◌, ◌+◌, ◌-◌, ◌==◌, nat_lt, nat_le, ℕ, zero, suc, Bool, true, false, not, ◌&&◌, cond, List, [], ◌∷◌, ◌++◌, length, length-set, get_or, set, map, refl, sym, ap, ◌∙◌, subst, ⊎_elim, arith, rules, get_or-set_same, get_or-set_other, add-one}
 use Rattle.std.specs.List.{list_all}
 use Rattle.std.proofs.lemmas.Bool.{cases_Bool, cases_lt, cases_eq, ltb-true, lt-ltb, le-leb, eq-eqb, and_parts, and_from}
 use Rattle.std.proofs.lemmas.List.{set-set, set-get_or}
@@ -10,7 +10,7 @@ use Rattle.net_ir.specs.declared.events.Turn.{Turn}
 use Rattle.net_ir.specs.Nets.{Net, queue_at, exits, IsNetwork}
 use Rattle.net_ir.specs.Firings.{takes, events, firings_at}
 use Rattle.net_ir.specs.States.{turn_at, unmoved, taken_by, sent_by, taken, sent, next_event, turn_after, after, is_possible, IsTurn, IsLawful, has_firing, can_step, Run}
-use Rattle.net_ir.specs.CycleRun.{IsBetween, fires, fired_wholly, visit, met, cycle}
+use Rattle.net_ir.specs.CycleRun.{IsBetween, fires, fired_wholly, visit, met, fired_among, held_among}
 use Rattle.net_ir.proofs.Distinct.{has, has-get_or, passes_at}
 use Rattle.net_ir.proofs.Effects.{event_list, by_next, length-events, take_is, send_is}
 use Rattle.net_ir.proofs.Steps.{taken_between, sent_between, taken_next, sent_next, IsLawful-run}
@@ -26,6 +26,28 @@ event_parts p ins outs h =
     let one = and_parts _ _ (sym (list_all-append p (map Take ins) (map Send outs ++ Close ∷ [])) ∙ h) in
     let two = and_parts _ _ (sym (list_all-append p (map Send outs) (Close ∷ [])) ∙ one.1) in
     (sym (list_all-map p Take ins) ∙ one.0, sym (list_all-map p Send outs) ∙ two.0)
+
+pub events_possible : (net : Net) (state : List Turn) (m k : ℕ) (t s : Bool) → t ≡ list_all (λ n. is_possible net state (Take n)) (takes net m k) → s ≡ list_all (λ n. is_possible net state (Send n)) (exits net m) → (t && s) ≡ list_all (is_possible net state) (events net m k)
+unfolding events is_possible
+events_possible net state m k t s a b =
+    ap (λ x. x && s) a ∙ ap (λ x. list_all (λ n. is_possible net state (Take n)) (takes net m k) && x) b
+    ∙ joined (list_all (λ n. is_possible net state (Take n)) (takes net m k)) (list_all (λ n. is_possible net state (Send n)) (exits net m))
+      (list_all-map (is_possible net state) Take (takes net m k)) (list_all-append (is_possible net state) (map Send (exits net m)) (Close ∷ []))
+      (list_all-map (is_possible net state) Send (exits net m))
+    ∙ sym (list_all-append (is_possible net state) (map Take (takes net m k)) (map Send (exits net m) ++ Close ∷ []))
+  where
+    at_end : (s : Bool) → s ≡ (s && (true && true))
+    at_end true = refl
+    at_end false = refl
+
+    joined : (t s : Bool) {t' s' rest : Bool} → t' ≡ t → rest ≡ (s' && (true && true)) → s' ≡ s → (t && s) ≡ (t' && rest)
+    joined t s {t'} {s'} {rest} p q r = ap (λ x. t && x) (at_end s ∙ ap (λ x. x && (true && true)) (sym r) ∙ sym q) ∙ ap (λ x. x && rest) (sym p)
+
+module _ (net : Net) (firings : ℕ) where
+  pub fires_is : (stalled : List Bool) (state : List Turn) (m : ℕ) (flag left able : Bool) → flag ≡ get_or stalled m false → left ≡ has_firing net firings state m → able ≡ list_all (is_possible net state) (events net m (turn_at state m).fired) → (not flag && (left && able)) ≡ fires net firings stalled state m
+  unfolding fires
+  fires_is stalled state m flag left able f l a =
+      ap (λ x. not x && (left && able)) f ∙ ap (λ x. not (get_or stalled m false) && (x && able)) l ∙ ap (λ x. not (get_or stalled m false) && (has_firing net firings state m && x)) a
 
 -- the number, so many times
 abbrev pub repeat : ℕ → ℕ → List ℕ
@@ -137,6 +159,33 @@ module _ (net : Net) (firings : ℕ) (network : IsNetwork net) where
   unfolding fires
   fires_parts stalled state m h =
       let p = and_parts _ _ (and_parts _ _ h).1 in (ltb-true _ _ p.0, p.1)
+
+  -- a whole firing keeps a state lawful
+  pub fired_lawful : (stalled : List Bool) (state : List Turn) (m : ℕ) → IsLawful net firings state → IsBetween state → m < length net.modules → fires net firings stalled state m ≡ true → IsLawful net firings (set state m (fired_wholly (turn_at state m)))
+  fired_lawful stalled state m lawful between h b =
+      let p = fires_parts stalled state m b in
+      IsLawful-run net firings (repeat (suc (length (takes net m (turn_at state m).fired) + length (exits net m))) m) state (set state m (fired_wholly (turn_at state m))) lawful (whole_run state m (omega (arith, lawful.whole)) h between p.0 p.1)
+
+  pub visit_fired : (stalled : List Bool) (state : List Turn) (m : ℕ) (turn : Turn) → turn ≡ turn_at state m → fires net firings stalled state m ≡ true → set state m (fired_wholly turn) ≡ visit net firings stalled state m
+  unfolding visit
+  visit_fired stalled state m turn t b =
+      ap (λ x. set state m (fired_wholly x)) t ∙ ap (λ c. cond c (set state m (fired_wholly (turn_at state m))) state) (sym b)
+
+  pub visit_kept : (stalled : List Bool) (state : List Turn) (m : ℕ) → fires net firings stalled state m ≡ false → state ≡ visit net firings stalled state m
+  unfolding visit
+  visit_kept stalled state m b = ap (λ c. cond c (set state m (fired_wholly (turn_at state m))) state) (sym b)
+
+  pub met_one : (stalled : List Bool) (state : List Turn) (m : ℕ) → visit net firings stalled (met net firings stalled state m) m ≡ met net firings stalled state (m + 1)
+  unfolding met
+  met_one stalled state m = ap (met net firings stalled state) (sym (add-one m))
+
+  pub fired_one : (stalled : List Bool) (state : List Turn) (m : ℕ) → fired_among net firings stalled state m + cond (fires net firings stalled (met net firings stalled state m) m) 1 0 ≡ fired_among net firings stalled state (m + 1)
+  unfolding fired_among
+  fired_one stalled state m = ap (fired_among net firings stalled state) (sym (add-one m))
+
+  pub held_one : (stalled : List Bool) (state : List Turn) (m : ℕ) → held_among net firings stalled state m + cond (has_firing net firings (met net firings stalled state m) m && not (fires net firings stalled (met net firings stalled state m) m)) 1 0 ≡ held_among net firings stalled state (m + 1)
+  unfolding held_among
+  held_one stalled state m = ap (held_among net firings stalled state) (sym (add-one m))
 
   pub visit_run : (stalled : List Bool) (state : List Turn) (m : ℕ) → IsLawful net firings state → IsBetween state → m < length net.modules → (ms : List ℕ) × Run net firings state ms (visit net firings stalled state m)
   visit_run stalled state m lawful between h =

@@ -8,3 +8,4 @@ pub mod Bounds
 pub mod Listing
 pub mod Scans
 pub mod Facts
+pub mod TwoReads

@@ -153,3 +153,7 @@ taken_with net n turn q b e =
 pub sent_with : (net : Net) (n : ℕ) (turn : Turn) (q : Queue) (b : Bool) → q ≡ queue_at net.queues n → b ≡ list_any (nat_eq n) (sent_now net q.from turn) → turn.fired + cond b 1 0 ≡ sent_by net n turn
 sent_with net n turn q b e =
     subst (λ (z : Queue). b ≡ list_any (nat_eq n) (sent_now net z.from turn) → turn.fired + cond b 1 0 ≡ sent_by net n turn) (sym e) (sent_by_once net n turn b)
+
+pub ready_takes : (net : Net) (m k : ℕ) (ports : List ℕ) → ports ≡ entrances net m → ready net.queues k ports ≡ takes net m k
+unfolding takes
+ready_takes net m k ports p = ap (ready net.queues k) p

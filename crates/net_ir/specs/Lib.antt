@@ -4,3 +4,4 @@ pub mod States
 pub mod Waits
 pub mod CycleRun
 pub mod Table
+pub mod Worked

@@ -111,10 +111,22 @@ fn unmoved_turns(alloc: Global, modules: &[Module]) -> Result<Vec<Turn>, NoMemor
     Ok(turns)
 }
 
+/// The number of modules.
+pub(crate) fn module_count(net: &Network, counts: &Counts) -> u32
+    requires started { counts.now.network ≡ net.now }
+    ensures value { result ≡ length net.now.modules }
+    ensures lawful { IsLawful net.now counts.now.firings counts.now.state }
+    ensures network { IsNetwork net.now }
+{
+    let _firings = counts.firings();
+    net.modules().len() as u32
+}
+
 /// How many firings a module has.
 pub(crate) fn firings_of(net: &Network, counts: &Counts, module: u32) -> u64
     requires { «module» < length net.now.modules }
-    ensures { result ≡ firings_at net.now counts.now.firings «module» }
+    ensures value { result ≡ firings_at net.now counts.now.firings «module» }
+    ensures network { IsNetwork net.now }
 {
     counts
         .firings()
@@ -227,9 +239,7 @@ fn all_done(net: &Network, counts: &Counts) -> bool
     ensures lawful { IsLawful net.now counts.now.firings counts.now.state }
     ensures network { IsNetwork net.now }
 {
-    let modules = net.modules();
-    let _firings = counts.firings();
-    for module in 0..modules.len() as u32 {
+    for module in 0..module_count(net, counts) {
         if counts.turn(module).fired != firings_of(net, counts, module) {
             return false;
         }

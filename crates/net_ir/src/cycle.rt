@@ -1,12 +1,12 @@
 ghost use Rattle.std.specs.Prelude.{◌≡◌, ◌<◌, ◌≤◌, ◌+◌, ◌&&◌, not, ℕ, List, length, slice_set, if◌then◌else◌};
 ghost use Rattle.std.specs.List.{list_all};
 ghost use Rattle.net_ir.specs.Nets.{exits};
-ghost use Rattle.net_ir.specs.Firings.{takes, firings_at};
+ghost use Rattle.net_ir.specs.Firings.{takes, events};
 ghost use Rattle.net_ir.specs.States.{turn_at, is_possible, has_firing, Run};
 ghost use Rattle.net_ir.specs.CycleRun.{IsBetween, fires, visit, cycle, fired_among, held_among};
 ghost use Rattle.net_ir.specs.declared.events.Event.TheVariants.{Take, Send};
 
-use crate::counts::{Counts, firings_of, is_possible};
+use crate::counts::{Counts, firings_of, is_possible, module_count};
 use crate::events::{Event, Turn};
 use crate::moves::queue_of;
 use crate::network::Network;
@@ -52,6 +52,18 @@ fn sends_possible(net: &Network, counts: &Counts, module: u32) -> bool
     true
 }
 
+/// Whether each event of a module's firing is possible.
+fn all_possible(net: &Network, counts: &Counts, module: u32, firing: u64) -> bool
+    requires started { counts.now.network ≡ net.now }
+    requires known { «module» < length net.now.modules }
+    ensures { result ≡ list_all (is_possible net.now counts.now.state) (events net.now «module» firing) }
+{
+    if takes_possible(net, counts, module, firing) {
+        return sends_possible(net, counts, module);
+    }
+    false
+}
+
 /// Whether a module fires when it is visited.
 fn fires(net: &Network, counts: &Counts, module: u32, stalled: &[bool]) -> bool
     requires started { counts.now.network ≡ net.now }
@@ -59,11 +71,14 @@ fn fires(net: &Network, counts: &Counts, module: u32, stalled: &[bool]) -> bool
     requires known { «module» < length net.now.modules }
     ensures { result ≡ fires net.now counts.now.firings stalled.now counts.now.state «module» }
 {
-    let fired = counts.turn(module).fired;
-    !stalled[module as usize]
-        && fired < firings_of(net, counts, module)
-        && takes_possible(net, counts, module, fired)
-        && sends_possible(net, counts, module)
+    let turn = counts.turn(module);
+    if stalled[module as usize] {
+        return false;
+    }
+    if turn.fired >= firings_of(net, counts, module) {
+        return false;
+    }
+    all_possible(net, counts, module, turn.fired)
 }
 
 /// Visits a module: it fires wholly or not at all.
@@ -77,6 +92,7 @@ fn visit(net: &Network, counts: &mut Counts, module: u32, stalled: &[bool]) -> C
     ensures held { result.held ≡ (if has_firing net.now counts.old.firings counts.old.state «module» && not (fires net.now counts.old.firings stalled.now counts.old.state «module») then 1 else 0) }
 {
     let turn = counts.turn(module);
+    let firings = firings_of(net, counts, module);
     if fires(net, counts, module, stalled) {
         counts.set_turn(
             module,
@@ -87,7 +103,7 @@ fn visit(net: &Network, counts: &mut Counts, module: u32, stalled: &[bool]) -> C
         );
         return CycleCount { fired: 1, held: 0 };
     }
-    if turn.fired < firings_of(net, counts, module) {
+    if turn.fired < firings {
         CycleCount { fired: 0, held: 1 }
     } else {
         CycleCount { fired: 0, held: 0 }
@@ -108,7 +124,7 @@ pub fn count_cycle(net: &Network, counts: &mut Counts, stalled: &[bool]) -> Cycl
     ensures events { (ms : List ℕ) × Run net.now counts.old.firings counts.old.state ms counts.new.state }
 {
     let mut count = CycleCount { fired: 0, held: 0 };
-    for module in 0..net.modules().len() as u32 {
+    for module in 0..module_count(net, counts) {
         let one = visit(net, counts, module, stalled);
         count.fired += one.fired;
         count.held += one.held;

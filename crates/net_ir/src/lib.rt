@@ -4,10 +4,12 @@
 mod counts;
 mod cycle;
 mod events;
+mod laws;
 mod moves;
 mod network;
 
 pub use counts::{Counts, can_step, finished, step, waits_for};
 pub use cycle::{CycleCount, count_cycle};
 pub use events::{Event, Turn};
+pub use laws::{capacity_decides, cycles_end_in_time, no_ring_of_waits, runs_are_lawful};
 pub use network::{Module, Network, NoMemory, Queue};

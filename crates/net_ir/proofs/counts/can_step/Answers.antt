@@ -7,7 +7,7 @@ use Rattle.net_ir.proofs.counts.can_step.Goals as goal
 pub returns-then-turn-firings_of-clause-value : goal.returns-then-turn-firings_of-clause-value
 returns-then-turn-firings_of-clause-value c =
     can_from c.args.net.now c.args.counts.now.firings c.args.counts.now.state c.args.module c.turn-turn.result c.next_event.result true c.is_possible.result c.turn-turn.ensures.value c.next_event.ensures.value
-      (sym (lt-ltb _ _ (omega (arith, c.if-turn-firings_of.true, c.firings_of.ensures)))) c.is_possible.ensures
+      (sym (lt-ltb _ _ (omega (arith, c.if-turn-firings_of.true, c.firings_of.ensures.value)))) c.is_possible.ensures
 
 pub returns-then-turn-firings_of-clause-event : goal.returns-then-turn-firings_of-clause-event
 returns-then-turn-firings_of-clause-event c =
@@ -18,4 +18,4 @@ returns-then-turn-firings_of-clause-event c =
 
 pub returns-else-turn-firings_of-clause-value : goal.returns-else-turn-firings_of-clause-value
 returns-else-turn-firings_of-clause-value c =
-    cannot c.args.net.now c.args.counts.now.firings c.args.counts.now.state c.args.module c.turn-turn.result _ c.turn-turn.ensures.value (omega (arith, c.if-turn-firings_of.false, c.firings_of.ensures)) (le-ltb _ _ c.if-turn-firings_of.false)
+    cannot c.args.net.now c.args.counts.now.firings c.args.counts.now.state c.args.module c.turn-turn.result _ c.turn-turn.ensures.value (omega (arith, c.if-turn-firings_of.false, c.firings_of.ensures.value)) (le-ltb _ _ c.if-turn-firings_of.false)

@@ -1,0 +1,32 @@
+ghost use Rattle.std.specs.Prelude.{◌≡◌, ◌<◌, ℕ, Bool, List};
+ghost use Rattle.net_ir.specs.declared.events.Turn.{Turn};
+ghost use Rattle.net_ir.specs.Nets.{Net, IsNetwork, IsOrderly};
+ghost use Rattle.net_ir.specs.States.{zeros, Run, IsLawful};
+ghost use Rattle.net_ir.specs.Waits.{NoRing, GoesOn};
+ghost use Rattle.net_ir.specs.CycleRun.{EndsInTime};
+ghost use Rattle.net_ir.specs.Worked.{two_reads};
+
+/// Each state of each run of events is lawful.
+pub fn runs_are_lawful()
+    ensures { (net : Net) (firings : ℕ) (ms : List ℕ) (end : List Turn) → Run net firings (zeros net) ms end → IsLawful net firings end }
+{}
+
+/// In a network whose queues fit the firing order no module ever waits on itself, and a state that isn't finished has
+/// a module that can do its next event.
+pub fn no_ring_of_waits()
+    ensures no_ring { (net : Net) (firings : ℕ) (state : List Turn) → IsNetwork net → IsOrderly net → IsLawful net firings state → NoRing net firings state }
+    ensures goes_on { (net : Net) (firings : ℕ) (state : List Turn) → IsNetwork net → IsOrderly net → IsLawful net firings state → GoesOn net firings state }
+{}
+
+/// In a network whose queues fit the firing order a run of cycles ends in time.
+pub fn cycles_end_in_time()
+    ensures { (net : Net) (firings : ℕ) (stalls : List (List Bool)) → IsNetwork net → IsOrderly net → EndsInTime net firings stalls }
+{}
+
+/// The queues of the example network fit the firing order where its reuse queue has the capacity 4, and don't where it
+/// has the capacity 1.
+pub fn capacity_decides()
+    ensures network { (capacity : ℕ) → IsNetwork (two_reads capacity) }
+    ensures four { IsOrderly (two_reads 4) }
+    ensures one { IsOrderly (two_reads 1) → ⊥ }
+{}
