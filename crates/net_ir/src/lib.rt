@@ -7,6 +7,8 @@ mod events;
 mod laws;
 mod moves;
 mod network;
+#[cfg(test)]
+mod tests;
 
 pub use counts::{Counts, can_step, finished, step, waits_for};
 pub use cycle::{CycleCount, count_cycle};
