@@ -1,7 +1,7 @@
 -- A visit of a cycle, and a whole cycle, is a run of events.
-use Rattle.std.proofs.Common.{◌≡◌, ◌≢◌, ◌<◌, ◌≤◌, ◌+◌, ◌-◌, ◌==◌, nat_lt, nat_le, ℕ, zero, suc, Bool, true, false, not, ◌&&◌, cond, List, [], ◌∷◌, ◌++◌, length, length-set, get_or, set, map, refl, sym, ap, ◌∙◌, subst, ⊎_elim, arith, rules, get_or-set_same, get_or-set_other, add-one}
+use Rattle.std.proofs.Common.{◌≡◌, ◌≢◌, ◌<◌, ◌≤◌, ◌+◌, ◌-◌, ℕ, zero, suc, Bool, true, false, not, ◌&&◌, cond, List, [], ◌∷◌, ◌++◌, length, get_or, set, map, refl, sym, ap, ◌∙◌, subst, ⊎_elim, arith, get_or-set_same, get_or-set_other, add-one}
 use Rattle.std.specs.List.{list_all}
-use Rattle.std.proofs.lemmas.Bool.{cases_Bool, cases_lt, cases_eq, ltb-true, lt-ltb, le-leb, eq-eqb, and_parts, and_from}
+use Rattle.std.proofs.lemmas.Bool.{cases_Bool, cases_eq, ltb-true, lt-ltb, and_parts, and_from}
 use Rattle.std.proofs.lemmas.List.{set-set, set-get_or}
 use Rattle.std.proofs.lemmas.List.Folds.{list_all-append, list_all-map}
 use Rattle.net_ir.specs.declared.events.Event.{Event}
@@ -9,17 +9,17 @@ use Rattle.net_ir.specs.declared.events.Event.TheVariants.{Take, Send, Close}
 use Rattle.net_ir.specs.declared.events.Turn.{Turn}
 use Rattle.net_ir.specs.Nets.{Net, queue_at, exits, IsNetwork}
 use Rattle.net_ir.specs.Firings.{takes, events, firings_at}
-use Rattle.net_ir.specs.States.{turn_at, unmoved, taken_by, sent_by, taken, sent, next_event, turn_after, after, is_possible, IsTurn, IsLawful, has_firing, can_step, Run}
+use Rattle.net_ir.specs.States.{turn_at, unmoved, taken_by, sent_by, taken, sent, next_event, turn_after, after, is_possible, IsLawful, has_firing, can_step, Run}
 use Rattle.net_ir.specs.CycleRun.{IsBetween, fires, fired_wholly, visit, met, fired_among, held_among}
 use Rattle.net_ir.proofs.Distinct.{has, has-get_or, passes_at}
-use Rattle.net_ir.proofs.Effects.{event_list, by_next, length-events, take_is, send_is}
+use Rattle.net_ir.proofs.Effects.{event_list, by_next, take_is, send_is}
 use Rattle.net_ir.proofs.Steps.{taken_between, sent_between, taken_next, sent_next, IsLawful-run}
 
 pub all_events : (p : Event → Bool) (ins outs : List ℕ) → list_all (λ x. p (Take x)) ins ≡ true → list_all (λ x. p (Send x)) outs ≡ true → p Close ≡ true → list_all p (event_list ins outs) ≡ true
 all_events p ins outs a b c =
     list_all-append p (map Take ins) (map Send outs ++ Close ∷ [])
     ∙ and_from _ _ (list_all-map p Take ins ∙ a)
-      (list_all-append p (map Send outs) (Close ∷ []) ∙ and_from _ _ (list_all-map p Send outs ∙ b) (and_from (p Close) true c refl))
+    (list_all-append p (map Send outs) (Close ∷ []) ∙ and_from _ _ (list_all-map p Send outs ∙ b) (and_from (p Close) true c refl))
 
 pub event_parts : (p : Event → Bool) (ins outs : List ℕ) → list_all p (event_list ins outs) ≡ true → (list_all (λ x. p (Take x)) ins ≡ true) × (list_all (λ x. p (Send x)) outs ≡ true)
 event_parts p ins outs h =
@@ -32,8 +32,8 @@ unfolding events is_possible
 events_possible net state m k t s a b =
     ap (λ x. x && s) a ∙ ap (λ x. list_all (λ n. is_possible net state (Take n)) (takes net m k) && x) b
     ∙ joined (list_all (λ n. is_possible net state (Take n)) (takes net m k)) (list_all (λ n. is_possible net state (Send n)) (exits net m))
-      (list_all-map (is_possible net state) Take (takes net m k)) (list_all-append (is_possible net state) (map Send (exits net m)) (Close ∷ []))
-      (list_all-map (is_possible net state) Send (exits net m))
+    (list_all-map (is_possible net state) Take (takes net m k)) (list_all-append (is_possible net state) (map Send (exits net m)) (Close ∷ []))
+    (list_all-map (is_possible net state) Send (exits net m))
     ∙ sym (list_all-append (is_possible net state) (map Take (takes net m k)) (map Send (exits net m) ++ Close ∷ []))
   where
     at_end : (s : Bool) → s ≡ (s && (true && true))
@@ -90,30 +90,30 @@ module _ (net : Net) (firings : ℕ) (network : IsNetwork net) where
         let k : ℕ = (turn_at state m).fired in
         let ins : List ℕ = takes net m k in
         by_next net (λ e. is_possible net (amid i) e ≡ true) m (midst i)
-          (λ h. let x : ℕ = get_or ins i 0 in
-            let found : has x ins ≡ true = has-get_or ins i 0 h in
-            let is = take_is net m k x found in
-            let apart : (queue_at net.queues x).from ≢ m = (λ e. network.ends x is.0 (e ∙ sym is.1)) in
-            let sends : sent net (amid i) x ≡ sent net state x = ap (sent_by net x) (elsewhere i (queue_at net.queues x).from apart) in
-            let turn_is : (turn_at (amid i) m).fired ≡ k = ap (λ t. t.fired) (here i) in
-            let part_is : (turn_at (amid i) m).part ≡ i = ap (λ t. t.part) (here i) in
-            let now : taken net (amid i) x ≡ k - (queue_at net.queues x).lead =
-              taken_next net (amid i) m i x is.1 (sym part_is) (subst (λ y. i < length (takes net m y)) (sym turn_is) h) (ap (λ y. get_or (takes net m y) i 0) (sym turn_is)) ∙ ap (λ y. y - (queue_at net.queues x).lead) turn_is in
-            let before : taken net state x ≡ k - (queue_at net.queues x).lead =
-              ap (λ y. taken_by net x (turn_at state y)) is.1 ∙ taken_between net x (turn_at state m) (between m) in
-            lt-ltb (taken net (amid i) x) (sent net (amid i) x) (omega (arith, take_possible x found)))
-          (λ j h. let o : ℕ = i - length ins in
-            let x : ℕ = get_or (exits net m) o 0 in
-            let found : has x (exits net m) ≡ true = has-get_or (exits net m) o 0 (omega arith) in
-            let is = send_is net m x found in
-            let apart : (queue_at net.queues x).to ≢ m = (λ e. network.ends x is.0 (is.1 ∙ sym e)) in
-            let takings : taken net (amid i) x ≡ taken net state x = ap (taken_by net x) (elsewhere i (queue_at net.queues x).to apart) in
-            let turn_is : (turn_at (amid i) m).fired ≡ k = ap (λ t. t.fired) (here i) in
-            let place_is : o ≡ (turn_at (amid i) m).part - length (takes net m (turn_at (amid i) m).fired) = sym (ap (λ t. t.part - length (takes net m t.fired)) (here i)) in
-            let now : sent net (amid i) x ≡ k = sent_next net (amid i) m o x is.1 place_is (omega arith) refl ∙ turn_is in
-            let before : sent net state x ≡ k = ap (λ y. sent_by net x (turn_at state y)) is.1 ∙ sent_between net x (turn_at state m) (between m) in
-            lt-ltb (sent net (amid i) x) (taken net (amid i) x + (queue_at net.queues x).capacity) (omega (arith, send_possible x found)))
-          (λ h. refl)
+        (λ h. let x : ℕ = get_or ins i 0 in
+        let found : has x ins ≡ true = has-get_or ins i 0 h in
+        let is = take_is net m k x found in
+        let apart : (queue_at net.queues x).from ≢ m = (λ e. network.ends x is.0 (e ∙ sym is.1)) in
+        let sends : sent net (amid i) x ≡ sent net state x = ap (sent_by net x) (elsewhere i (queue_at net.queues x).from apart) in
+        let turn_is : (turn_at (amid i) m).fired ≡ k = ap (λ t. t.fired) (here i) in
+        let part_is : (turn_at (amid i) m).part ≡ i = ap (λ t. t.part) (here i) in
+        let now : taken net (amid i) x ≡ k - (queue_at net.queues x).lead =
+        taken_next net (amid i) m i x is.1 (sym part_is) (subst (λ y. i < length (takes net m y)) (sym turn_is) h) (ap (λ y. get_or (takes net m y) i 0) (sym turn_is)) ∙ ap (λ y. y - (queue_at net.queues x).lead) turn_is in
+        let before : taken net state x ≡ k - (queue_at net.queues x).lead =
+        ap (λ y. taken_by net x (turn_at state y)) is.1 ∙ taken_between net x (turn_at state m) (between m) in
+        lt-ltb (taken net (amid i) x) (sent net (amid i) x) (omega (arith, take_possible x found)))
+        (λ j h. let o : ℕ = i - length ins in
+        let x : ℕ = get_or (exits net m) o 0 in
+        let found : has x (exits net m) ≡ true = has-get_or (exits net m) o 0 (omega arith) in
+        let is = send_is net m x found in
+        let apart : (queue_at net.queues x).to ≢ m = (λ e. network.ends x is.0 (is.1 ∙ sym e)) in
+        let takings : taken net (amid i) x ≡ taken net state x = ap (taken_by net x) (elsewhere i (queue_at net.queues x).to apart) in
+        let turn_is : (turn_at (amid i) m).fired ≡ k = ap (λ t. t.fired) (here i) in
+        let place_is : o ≡ (turn_at (amid i) m).part - length (takes net m (turn_at (amid i) m).fired) = sym (ap (λ t. t.part - length (takes net m t.fired)) (here i)) in
+        let now : sent net (amid i) x ≡ k = sent_next net (amid i) m o x is.1 place_is (omega arith) refl ∙ turn_is in
+        let before : sent net state x ≡ k = ap (λ y. sent_by net x (turn_at state y)) is.1 ∙ sent_between net x (turn_at state m) (between m) in
+        lt-ltb (sent net (amid i) x) (taken net (amid i) x + (queue_at net.queues x).capacity) (omega (arith, send_possible x found)))
+        (λ h. refl)
 
     amid_can : (i : ℕ) → can_step net firings (amid i) m ≡ true
     unfolding can_step
@@ -150,9 +150,9 @@ module _ (net : Net) (firings : ℕ) (network : IsNetwork net) where
   unfolding visit
   visit_cases P stalled state m moved kept =
       ⊎_elim
-        (λ b. subst (λ c. P (cond c (set state m (fired_wholly (turn_at state m))) state)) (sym b) (moved b))
-        (λ b. subst (λ c. P (cond c (set state m (fired_wholly (turn_at state m))) state)) (sym b) (kept b))
-        (cases_Bool (fires net firings stalled state m))
+      (λ b. subst (λ c. P (cond c (set state m (fired_wholly (turn_at state m))) state)) (sym b) (moved b))
+      (λ b. subst (λ c. P (cond c (set state m (fired_wholly (turn_at state m))) state)) (sym b) (kept b))
+      (cases_Bool (fires net firings stalled state m))
 
   -- what it takes to fire
   pub fires_parts : (stalled : List Bool) (state : List Turn) (m : ℕ) → fires net firings stalled state m ≡ true → ((turn_at state m).fired < firings_at net firings m) × (list_all (is_possible net state) (events net m (turn_at state m).fired) ≡ true)
@@ -190,18 +190,18 @@ module _ (net : Net) (firings : ℕ) (network : IsNetwork net) where
   pub visit_run : (stalled : List Bool) (state : List Turn) (m : ℕ) → IsLawful net firings state → IsBetween state → m < length net.modules → (ms : List ℕ) × Run net firings state ms (visit net firings stalled state m)
   visit_run stalled state m lawful between h =
       visit_cases (λ s. (ms : List ℕ) × Run net firings state ms s) stalled state m
-        (λ b. let p = fires_parts stalled state m b in
-          (repeat (suc (length (takes net m (turn_at state m).fired) + length (exits net m))) m, whole_run state m (omega (arith, lawful.whole)) h between p.0 p.1))
-        (λ b. ([], refl))
+      (λ b. let p = fires_parts stalled state m b in
+      (repeat (suc (length (takes net m (turn_at state m).fired) + length (exits net m))) m, whole_run state m (omega (arith, lawful.whole)) h between p.0 p.1))
+      (λ b. ([], refl))
 
   pub IsBetween-visit : (stalled : List Bool) (state : List Turn) (m : ℕ) → m < length state → IsBetween state → IsBetween (visit net firings stalled state m)
   IsBetween-visit stalled state m h between =
       visit_cases IsBetween stalled state m
-        (λ b n. ⊎_elim
-          (λ e. subst (λ x. (turn_at (set state m (fired_wholly (turn_at state m))) x).part ≡ 0) (sym e) (ap (λ t. t.part) (get_or-set_same state m (fired_wholly (turn_at state m)) unmoved h)))
-          (λ ne. ap (λ t. t.part) (get_or-set_other state m n (fired_wholly (turn_at state m)) unmoved ne) ∙ between n)
-          (cases_eq n m))
-        (λ b. between)
+      (λ b n. ⊎_elim
+      (λ e. subst (λ x. (turn_at (set state m (fired_wholly (turn_at state m))) x).part ≡ 0) (sym e) (ap (λ t. t.part) (get_or-set_same state m (fired_wholly (turn_at state m)) unmoved h)))
+      (λ ne. ap (λ t. t.part) (get_or-set_other state m n (fired_wholly (turn_at state m)) unmoved ne) ∙ between n)
+      (cases_eq n m))
+      (λ b. between)
 
   -- what holds in the midst of a cycle that began in a lawful state between firings
   pub record Amid (state now : List Turn) : Type 0 where

@@ -1,8 +1,7 @@
 -- Lists of numbers in which no number stands twice.
-use Rattle.std.proofs.Common.{◌≡◌, ◌<◌, ◌≤◌, ◌+◌, ℕ, zero, suc, Bool, true, false, ◌&&◌, ◌||◌, cond, nat_eq, List, [], ◌∷◌, ◌++◌, length, take, get_or, map, filter, refl, sym, ap, ◌∙◌, subst, ⊎_elim, arith, rules}
+use Rattle.std.proofs.Common.{◌≡◌, ◌<◌, ℕ, zero, suc, Bool, true, false, ◌&&◌, ◌||◌, cond, nat_eq, List, [], ◌∷◌, ◌++◌, length, take, get_or, filter, refl, sym, ap, ◌∙◌, subst, ⊎_elim, arith}
 use Rattle.std.specs.List.{list_any, list_all}
-use Rattle.std.proofs.lemmas.Bool.{cases_Bool, eqb-true, eqb-false, eq-eqb, ne_eqb, or_cases, or_left, or_right, or_from, or_parts, and_parts, and_from, false_from_ne_true, both_ways, false≢true}
-use Rattle.std.proofs.lemmas.Bool.Decides.{nat_tests}
+use Rattle.std.proofs.lemmas.Bool.{cases_Bool, eqb-true, eqb-false, eq-eqb, ne_eqb, or_cases, or_left, or_right, or_from, or_parts, and_parts, and_from, both_ways, false≢true}
 
 -- the list has the number
 abbrev pub has : ℕ → List ℕ → Bool
@@ -40,22 +39,22 @@ lacks-before (x ∷ xs) zero d u h = refl
 lacks-before (x ∷ xs) (suc i) d u h =
     let y : ℕ = get_or xs i d in
     or_from (nat_eq y x) (has y (take i xs))
-      (ne_eqb y x (λ e. both_ways (has x xs) u.0 (subst (λ z. has z xs ≡ true) e (has-get_or xs i d (omega arith)))))
-      (lacks-before xs i d u.1 (omega arith))
+    (ne_eqb y x (λ e. both_ways (has x xs) u.0 (subst (λ z. has z xs ≡ true) e (has-get_or xs i d (omega arith)))))
+    (lacks-before xs i d u.1 (omega arith))
 
 pub has-filter : (f : ℕ → Bool) (n : ℕ) (xs : List ℕ) → has n (filter f xs) ≡ (has n xs && f n)
 has-filter f n [] = refl
 has-filter f n (x ∷ xs) =
     ⊎_elim
-      (λ keep. ap (λ b. has n (cond b (x ∷ filter f xs) (filter f xs))) keep ∙ ⊎_elim
-        (λ e. let same : n ≡ x = eqb-true n x e in let kept : f n ≡ true = ap f same ∙ keep in shape (nat_eq n x) (has n xs) (f n) (has n (filter f xs)) (has-filter f n xs) kept)
-        (λ e. ap (λ b. b || has n (filter f xs)) e ∙ has-filter f n xs ∙ ap (λ b. (b || has n xs) && f n) (sym e))
-        (cases_Bool (nat_eq n x)))
-      (λ skip. ap (λ b. has n (cond b (x ∷ filter f xs) (filter f xs))) skip ∙ ⊎_elim
-        (λ e. let same : n ≡ x = eqb-true n x e in let lost : f n ≡ false = ap f same ∙ skip in has-filter f n xs ∙ none (has n xs) (f n) (nat_eq n x) lost)
-        (λ e. has-filter f n xs ∙ ap (λ b. (b || has n xs) && f n) (sym e))
-        (cases_Bool (nat_eq n x)))
-      (cases_Bool (f x))
+    (λ keep. ap (λ b. has n (cond b (x ∷ filter f xs) (filter f xs))) keep ∙ ⊎_elim
+    (λ e. let same : n ≡ x = eqb-true n x e in let kept : f n ≡ true = ap f same ∙ keep in shape (nat_eq n x) (has n xs) (f n) (has n (filter f xs)) (has-filter f n xs) kept)
+    (λ e. ap (λ b. b || has n (filter f xs)) e ∙ has-filter f n xs ∙ ap (λ b. (b || has n xs) && f n) (sym e))
+    (cases_Bool (nat_eq n x)))
+    (λ skip. ap (λ b. has n (cond b (x ∷ filter f xs) (filter f xs))) skip ∙ ⊎_elim
+    (λ e. let same : n ≡ x = eqb-true n x e in let lost : f n ≡ false = ap f same ∙ skip in has-filter f n xs ∙ none (has n xs) (f n) (nat_eq n x) lost)
+    (λ e. has-filter f n xs ∙ ap (λ b. (b || has n xs) && f n) (sym e))
+    (cases_Bool (nat_eq n x)))
+    (cases_Bool (f x))
   where
     shape : (a b c d : Bool) → d ≡ (b && c) → c ≡ true → (a || d) ≡ ((a || b) && c)
     shape true b c d e k = sym k
@@ -71,9 +70,9 @@ pub Distinct-filter : (f : ℕ → Bool) (xs : List ℕ) → Distinct xs → Dis
 Distinct-filter f [] u = tt
 Distinct-filter f (x ∷ xs) u =
     ⊎_elim
-      (λ keep. subst (λ b. Distinct (cond b (x ∷ filter f xs) (filter f xs))) (sym keep) (has-filter f x xs ∙ ap (λ b. b && f x) u.0, Distinct-filter f xs u.1))
-      (λ skip. subst (λ b. Distinct (cond b (x ∷ filter f xs) (filter f xs))) (sym skip) (Distinct-filter f xs u.1))
-      (cases_Bool (f x))
+    (λ keep. subst (λ b. Distinct (cond b (x ∷ filter f xs) (filter f xs))) (sym keep) (has-filter f x xs ∙ ap (λ b. b && f x) u.0, Distinct-filter f xs u.1))
+    (λ skip. subst (λ b. Distinct (cond b (x ∷ filter f xs) (filter f xs))) (sym skip) (Distinct-filter f xs u.1))
+    (cases_Bool (f x))
 
 pub Distinct-push : (xs : List ℕ) (n : ℕ) → Distinct xs → has n xs ≡ false → Distinct (xs ++ n ∷ [])
 Distinct-push [] n u h = (refl, tt)

@@ -1,16 +1,14 @@
 -- What one event does to the takes and sends of the queues.
-use Rattle.std.proofs.Common.{◌≡◌, ◌≢◌, ◌<◌, ◌≤◌, ◌+◌, ◌-◌, ◌==◌, nat_lt, nat_le, ℕ, zero, suc, Bool, true, false, ◌&&◌, ◌||◌, cond, nat_eq, List, [], ◌∷◌, ◌++◌, length, length-append, take, get_or, set, map, filter, refl, sym, ap, ◌∙◌, subst, ⊎_elim, arith, rules, get_or-set_same, get_or-set_other}
-use Rattle.std.specs.List.{list_any}
-use Rattle.std.proofs.lemmas.Bool.{cases_Bool, cases_lt, cases_eq, eqb-true, eqb-false, eq-eqb, ne_eqb, ltb-true, ltb-false, lt-ltb, leb-true, leb-false, and_parts, and_from, both_ways}
+use Rattle.std.proofs.Common.{◌≡◌, ◌≢◌, ◌<◌, ◌≤◌, ◌+◌, ◌-◌, ◌==◌, nat_lt, nat_le, ℕ, zero, suc, Bool, true, false, ◌&&◌, ◌||◌, cond, nat_eq, List, [], ◌∷◌, ◌++◌, length, length-append, take, get_or, map, refl, sym, ap, ◌∙◌, subst, ⊎_elim, arith, get_or-set_same, get_or-set_other}
+use Rattle.std.proofs.lemmas.Bool.{cases_lt, cases_eq, eqb-true, eq-eqb, ne_eqb, ltb-true, lt-ltb, leb-true, and_parts, and_from, both_ways}
 use Rattle.std.proofs.lemmas.Bool.Decides.{nat_tests}
 use Rattle.std.proofs.lemmas.List.{get_or_append_left, get_or-append_right, get_or-map, length-map, take_all}
 use Rattle.std.proofs.lemmas.List.Folds.{list_any_more}
-use Rattle.net_ir.specs.declared.network.Queue.{Queue}
 use Rattle.net_ir.specs.declared.events.Event.{Event}
 use Rattle.net_ir.specs.declared.events.Event.TheVariants.{Take, Send, Close}
 use Rattle.net_ir.specs.declared.events.Turn.{Turn}
 use Rattle.net_ir.specs.Nets.{Net, queue_at, entrances, exits}
-use Rattle.net_ir.specs.Firings.{takes, events, firings_at}
+use Rattle.net_ir.specs.Firings.{takes, events}
 use Rattle.net_ir.specs.States.{turn_at, taken_now, sent_now, once, taken_by, sent_by, taken, sent, next_event, turn_after, after}
 use Rattle.net_ir.proofs.Distinct.{has, Distinct, has-filter, has-get_or, lacks-before, Distinct-filter}
 use Rattle.net_ir.proofs.Ends.{has-entrances_among, has-exits_among, Distinct-entrances_among, Distinct-exits_among}
@@ -30,13 +28,13 @@ by_place P ins outs i taking sending closing =
     let long : length (map Take ins) ≡ length ins = length-map ins Take in
     let wide : length (map Send outs) ≡ length outs = length-map outs Send in
     ⊎_elim
-      (λ h. subst P (sym (get_or_append_left (map Take ins) rest Close i (omega arith) ∙ get_or-map Take ins i 0 Close h)) (taking h))
-      (λ h. let moved = get_or-append_right (map Take ins) rest (length ins) i Close long h in
-        ⊎_elim
-          (λ k. subst P (sym (moved ∙ get_or_append_left (map Send outs) (Close ∷ []) Close (i - length ins) (omega arith) ∙ get_or-map Send outs (i - length ins) 0 Close (omega arith))) (sending h k))
-          (λ k. subst P (sym (moved ∙ get_or-append_right (map Send outs) (Close ∷ []) (length outs) (i - length ins) Close wide (omega arith) ∙ last (i - length ins - length outs))) (closing k))
-          (cases_lt i (length ins + length outs)))
-      (cases_lt i (length ins))
+    (λ h. subst P (sym (get_or_append_left (map Take ins) rest Close i (omega arith) ∙ get_or-map Take ins i 0 Close h)) (taking h))
+    (λ h. let moved = get_or-append_right (map Take ins) rest (length ins) i Close long h in
+    ⊎_elim
+    (λ k. subst P (sym (moved ∙ get_or_append_left (map Send outs) (Close ∷ []) Close (i - length ins) (omega arith) ∙ get_or-map Send outs (i - length ins) 0 Close (omega arith))) (sending h k))
+    (λ k. subst P (sym (moved ∙ get_or-append_right (map Send outs) (Close ∷ []) (length outs) (i - length ins) Close wide (omega arith) ∙ last (i - length ins - length outs))) (closing k))
+    (cases_lt i (length ins + length outs)))
+    (cases_lt i (length ins))
   where
     last : (n : ℕ) → get_or (Close ∷ []) n Close ≡ Close
     last zero = refl
@@ -105,10 +103,10 @@ module _ (net : Net) where
       let lead : ℕ = (queue_at net.queues n).lead in
       let ins : List ℕ = takes net m turn.fired in
       by_next (λ e. taken_by net n (turn_after e turn) ≡ taken_by net n turn + taken_more e n) m turn
-        (λ k. omega (arith, once_more n ins turn.part (Distinct-takes m turn.fired) k))
-        (λ k j. ap (λ xs. (turn.fired - lead) + once n xs) (take_all (turn.part + 1) ins (omega arith) ∙ sym (take_all turn.part ins k)) ∙ omega arith)
-        (λ k. let all : take turn.part ins ≡ ins = take_all turn.part ins (omega arith) in
-          closed turn.fired lead (once n (take turn.part ins)) (has n ins) (ap (once n) all) (has-takes m turn.fired n ∙ ap (λ b. b && nat_le lead turn.fired) (and_from _ _ (lt-ltb n _ h) (eq-eqb m m refl))))
+      (λ k. omega (arith, once_more n ins turn.part (Distinct-takes m turn.fired) k))
+      (λ k j. ap (λ xs. (turn.fired - lead) + once n xs) (take_all (turn.part + 1) ins (omega arith) ∙ sym (take_all turn.part ins k)) ∙ omega arith)
+      (λ k. let all : take turn.part ins ≡ ins = take_all turn.part ins (omega arith) in
+      closed turn.fired lead (once n (take turn.part ins)) (has n ins) (ap (once n) all) (has-takes m turn.fired n ∙ ap (λ b. b && nat_le lead turn.fired) (and_from _ _ (lt-ltb n _ h) (eq-eqb m m refl))))
     where
       closed : (k lead o : ℕ) (b : Bool) → o ≡ cond b 1 0 → b ≡ nat_le lead k → (k + 1 - lead) + 0 ≡ ((k - lead) + o) + 0
       closed k lead o b e f = grind (arith, nat_tests)
@@ -121,46 +119,46 @@ module _ (net : Net) where
       let ins : ℕ = length (takes net m turn.fired) in
       let outs : List ℕ = exits net m in
       by_next (λ e. sent_by net n (turn_after e turn) ≡ sent_by net n turn + sent_more e n) m turn
-        (λ k. let a : (turn.part + 1) - ins ≡ 0 = omega arith in let b : turn.part - ins ≡ 0 = omega arith in ap (λ i. turn.fired + once n (take i outs)) (a ∙ sym b) ∙ omega arith)
-        (λ k j. let a : (turn.part + 1) - ins ≡ (turn.part - ins) + 1 = omega arith in
-          ap (λ i. turn.fired + once n (take i outs)) a ∙ omega (arith, once_more n outs (turn.part - ins) (Distinct-exits_among net.queues m (length net.queues)) (omega arith)))
-        (λ k. let all : take (turn.part - ins) outs ≡ outs = take_all (turn.part - ins) outs (omega arith) in
-          let full : has n outs ≡ true = has-exits m n ∙ and_from _ _ (lt-ltb n _ h) (eq-eqb m m refl) in
-          let none : 0 - length (takes net m (turn.fired + 1)) ≡ 0 = omega arith in
-          let nothing : once n (sent_now net m (turn_after Close turn)) ≡ 0 = ap (λ i. once n (take i outs)) none in
-          let now : once n (sent_now net m turn) ≡ once n outs = ap (once n) all in
-          omega (arith, nothing, now, ap {B = ℕ} (λ b. cond b 1 0) full))
+      (λ k. let a : (turn.part + 1) - ins ≡ 0 = omega arith in let b : turn.part - ins ≡ 0 = omega arith in ap (λ i. turn.fired + once n (take i outs)) (a ∙ sym b) ∙ omega arith)
+      (λ k j. let a : (turn.part + 1) - ins ≡ (turn.part - ins) + 1 = omega arith in
+      ap (λ i. turn.fired + once n (take i outs)) a ∙ omega (arith, once_more n outs (turn.part - ins) (Distinct-exits_among net.queues m (length net.queues)) (omega arith)))
+      (λ k. let all : take (turn.part - ins) outs ≡ outs = take_all (turn.part - ins) outs (omega arith) in
+      let full : has n outs ≡ true = has-exits m n ∙ and_from _ _ (lt-ltb n _ h) (eq-eqb m m refl) in
+      let none : 0 - length (takes net m (turn.fired + 1)) ≡ 0 = omega arith in
+      let nothing : once n (sent_now net m (turn_after Close turn)) ≡ 0 = ap (λ i. once n (take i outs)) none in
+      let now : once n (sent_now net m turn) ≡ once n outs = ap (once n) all in
+      omega (arith, nothing, now, ap {B = ℕ} (λ b. cond b 1 0) full))
 
   no_take : (m n : ℕ) (turn : Turn) → ((queue_at net.queues n).to ≢ m) → taken_more (next_event net m turn) n ≡ 0
   no_take m n turn ne =
       by_next (λ e. taken_more e n ≡ 0) m turn
-        (λ k. ap (λ b. cond b 1 0) (ne_eqb n _ (λ e. ne (ap (λ x. (queue_at net.queues x).to) e ∙ (take_is m turn.fired _ (has-get_or (takes net m turn.fired) turn.part 0 k)).1))))
-        (λ k j. refl)
-        (λ k. refl)
+      (λ k. ap (λ b. cond b 1 0) (ne_eqb n _ (λ e. ne (ap (λ x. (queue_at net.queues x).to) e ∙ (take_is m turn.fired _ (has-get_or (takes net m turn.fired) turn.part 0 k)).1))))
+      (λ k j. refl)
+      (λ k. refl)
 
   no_send : (m n : ℕ) (turn : Turn) → ((queue_at net.queues n).from ≢ m) → sent_more (next_event net m turn) n ≡ 0
   no_send m n turn ne =
       by_next (λ e. sent_more e n ≡ 0) m turn
-        (λ k. refl)
-        (λ k j. ap (λ b. cond b 1 0) (ne_eqb n _ (λ e. ne (ap (λ x. (queue_at net.queues x).from) e ∙ (send_is m _ (has-get_or (exits net m) (turn.part - length (takes net m turn.fired)) 0 (omega arith))).1))))
-        (λ k. refl)
+      (λ k. refl)
+      (λ k j. ap (λ b. cond b 1 0) (ne_eqb n _ (λ e. ne (ap (λ x. (queue_at net.queues x).from) e ∙ (send_is m _ (has-get_or (exits net m) (turn.part - length (takes net m turn.fired)) 0 (omega arith))).1))))
+      (λ k. refl)
 
   -- the takes of each queue after a module's next event
   pub taken-after : (state : List Turn) (m n : ℕ) → m < length state → n < length net.queues → (turn_at state m).part < length (events net m (turn_at state m).fired) → taken net (after net state m) n ≡ taken net state n + taken_more (next_event net m (turn_at state m)) n
   unfolding after
   taken-after state m n h j within =
       ⊎_elim
-        (λ e. subst (λ x. x < length state → (turn_at state x).part < length (events net x (turn_at state x).fired) → taken net (after net state x) n ≡ taken net state n + taken_more (next_event net x (turn_at state x)) n) e
-          (λ l w. ap (taken_by net n) (get_or-set_same state (queue_at net.queues n).to _ _ l) ∙ taken_own n (turn_at state (queue_at net.queues n).to) j w) h within)
-        (λ ne. ap (taken_by net n) (get_or-set_other state m (queue_at net.queues n).to _ _ ne) ∙ omega (arith, no_take m n (turn_at state m) ne))
-        (cases_eq (queue_at net.queues n).to m)
+      (λ e. subst (λ x. x < length state → (turn_at state x).part < length (events net x (turn_at state x).fired) → taken net (after net state x) n ≡ taken net state n + taken_more (next_event net x (turn_at state x)) n) e
+      (λ l w. ap (taken_by net n) (get_or-set_same state (queue_at net.queues n).to _ _ l) ∙ taken_own n (turn_at state (queue_at net.queues n).to) j w) h within)
+      (λ ne. ap (taken_by net n) (get_or-set_other state m (queue_at net.queues n).to _ _ ne) ∙ omega (arith, no_take m n (turn_at state m) ne))
+      (cases_eq (queue_at net.queues n).to m)
 
   -- the sends of each queue after a module's next event
   pub sent-after : (state : List Turn) (m n : ℕ) → m < length state → n < length net.queues → (turn_at state m).part < length (events net m (turn_at state m).fired) → sent net (after net state m) n ≡ sent net state n + sent_more (next_event net m (turn_at state m)) n
   unfolding after
   sent-after state m n h j within =
       ⊎_elim
-        (λ e. subst (λ x. x < length state → (turn_at state x).part < length (events net x (turn_at state x).fired) → sent net (after net state x) n ≡ sent net state n + sent_more (next_event net x (turn_at state x)) n) e
-          (λ l w. ap (sent_by net n) (get_or-set_same state (queue_at net.queues n).from _ _ l) ∙ sent_own n (turn_at state (queue_at net.queues n).from) j w) h within)
-        (λ ne. ap (sent_by net n) (get_or-set_other state m (queue_at net.queues n).from _ _ ne) ∙ omega (arith, no_send m n (turn_at state m) ne))
-        (cases_eq (queue_at net.queues n).from m)
+      (λ e. subst (λ x. x < length state → (turn_at state x).part < length (events net x (turn_at state x).fired) → sent net (after net state x) n ≡ sent net state n + sent_more (next_event net x (turn_at state x)) n) e
+      (λ l w. ap (sent_by net n) (get_or-set_same state (queue_at net.queues n).from _ _ l) ∙ sent_own n (turn_at state (queue_at net.queues n).from) j w) h within)
+      (λ ne. ap (sent_by net n) (get_or-set_other state m (queue_at net.queues n).from _ _ ne) ∙ omega (arith, no_send m n (turn_at state m) ne))
+      (cases_eq (queue_at net.queues n).from m)

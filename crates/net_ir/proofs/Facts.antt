@@ -1,7 +1,7 @@
 -- What the machine's calls rest on.
-use Rattle.std.proofs.Common.{◌≡◌, ◌≢◌, ◌<◌, ◌≤◌, ◌+◌, ◌-◌, ◌^◌, ◌↔◌, nat_lt, nat_le, nat_eq, ℕ, Bool, true, false, not, ◌&&◌, cond, List, [], ◌∷◌, length, map, set, get_or, Option, Some, None, IsNone, refl, sym, ap, ◌∙◌, subst, ◌⊎◌, inl, inr, ⊎_elim, arith, rules, get_or-set_other}
-use Rattle.std.specs.List.{list_any, filter}
-use Rattle.std.proofs.lemmas.Bool.{cases_Bool, cases_lt, cases_eq, ltb-true, ltb-false, lt-ltb, le-ltb, and_parts, and_from, and_left, not-true, not_from_true, not_from_false, false≢true, both_ways}
+use Rattle.std.proofs.Common.{◌≡◌, ◌≢◌, ◌<◌, ◌≤◌, ◌+◌, ◌-◌, ◌^◌, ◌↔◌, nat_lt, nat_le, nat_eq, ℕ, Bool, true, false, not, ◌&&◌, cond, List, length, map, set, Option, None, IsNone, refl, sym, ap, ◌∙◌, subst, ◌⊎◌, inl, inr, ⊎_elim, arith, get_or-set_other}
+use Rattle.std.specs.List.{list_any}
+use Rattle.std.proofs.lemmas.Bool.{cases_Bool, cases_lt, cases_eq, ltb-true, lt-ltb, le-ltb, and_parts, and_from, and_left, not_from_true, not_from_false, false≢true}
 use Rattle.std.proofs.lemmas.Bool.Decides.{nat_tests}
 use Rattle.std.proofs.lemmas.List.Sums.{count_by-le-length, length-filter}
 use Rattle.net_ir.specs.declared.network.Module.{Module}
@@ -9,8 +9,8 @@ use Rattle.net_ir.specs.declared.network.Queue.{Queue}
 use Rattle.net_ir.specs.declared.events.Event.{Event}
 use Rattle.net_ir.specs.declared.events.Event.TheVariants.{Take, Send, Close}
 use Rattle.net_ir.specs.declared.events.Turn.{Turn}
-use Rattle.net_ir.specs.Nets.{Net, age_at, queue_at, entrances, exits, IsNetwork}
-use Rattle.net_ir.specs.Firings.{takes, events, firings_at}
+use Rattle.net_ir.specs.Nets.{Net, queue_at, entrances, exits, IsNetwork}
+use Rattle.net_ir.specs.Firings.{takes, firings_at}
 use Rattle.net_ir.specs.States.{unmoved, turn_at, once, taken_by, sent_by, taken_now, sent_now, taken, sent, next_event, turn_after, after, is_possible, other_end, has_firing, can_step, waits_for, IsKnown, IsTurn, IsEvent, IsLawful}
 use Rattle.net_ir.proofs.Distinct.{has-get_or}
 use Rattle.net_ir.proofs.Effects.{by_next, take_is, send_is}
@@ -35,27 +35,27 @@ pub taken_fits : (net : Net) (firings m n : ℕ) (turn : Turn) → IsTurn net fi
 unfolding taken_by
 taken_fits net firings m n turn is =
     ⊎_elim
-      (λ e. omega (arith, taken_between net n turn e, is.completed))
-      (λ ne. let more : turn.fired < firings_at net firings m = ⊎_elim (λ h. h) (λ h. absurd (ne (is.over (omega (arith, is.completed))))) (cases_lt turn.fired (firings_at net firings m)) in
-        omega (arith, at_most_one n (taken_now net (queue_at net.queues n).to turn)))
-      (cases_eq turn.part 0)
+    (λ e. omega (arith, taken_between net n turn e, is.completed))
+    (λ ne. let more : turn.fired < firings_at net firings m = ⊎_elim (λ h. h) (λ h. absurd (ne (is.over (omega (arith, is.completed))))) (cases_lt turn.fired (firings_at net firings m)) in
+    omega (arith, at_most_one n (taken_now net (queue_at net.queues n).to turn)))
+    (cases_eq turn.part 0)
 
 pub sent_fits : (net : Net) (firings m n : ℕ) (turn : Turn) → IsTurn net firings m turn → sent_by net n turn ≤ firings
 unfolding sent_by
 sent_fits net firings m n turn is =
     ⊎_elim
-      (λ e. omega (arith, sent_between net n turn e, is.completed))
-      (λ ne. let more : turn.fired < firings_at net firings m = ⊎_elim (λ h. h) (λ h. absurd (ne (is.over (omega (arith, is.completed))))) (cases_lt turn.fired (firings_at net firings m)) in
-        omega (arith, at_most_one n (sent_now net (queue_at net.queues n).from turn)))
-      (cases_eq turn.part 0)
+    (λ e. omega (arith, sent_between net n turn e, is.completed))
+    (λ ne. let more : turn.fired < firings_at net firings m = ⊎_elim (λ h. h) (λ h. absurd (ne (is.over (omega (arith, is.completed))))) (cases_lt turn.fired (firings_at net firings m)) in
+    omega (arith, at_most_one n (sent_now net (queue_at net.queues n).from turn)))
+    (cases_eq turn.part 0)
 
 module _ (net : Net) where
   pub IsKnown-next : (m : ℕ) (turn : Turn) → IsKnown net (next_event net m turn)
   IsKnown-next m turn =
       by_next net (IsKnown net) m turn
-        (λ k. (take_is net m turn.fired _ (has-get_or (takes net m turn.fired) turn.part 0 k)).0)
-        (λ j k. (send_is net m _ (has-get_or (exits net m) (turn.part - length (takes net m turn.fired)) 0 (omega arith))).0)
-        (λ k. tt)
+      (λ k. (take_is net m turn.fired _ (has-get_or (takes net m turn.fired) turn.part 0 k)).0)
+      (λ j k. (send_is net m _ (has-get_or (exits net m) (turn.part - length (takes net m turn.fired)) 0 (omega arith))).0)
+      (λ k. tt)
 
   takes_few : (m k : ℕ) → length (takes net m k) ≤ length (entrances net m)
   unfolding takes
@@ -64,9 +64,9 @@ module _ (net : Net) where
   pub part_fits : (m : ℕ) (turn : Turn) → length (entrances net m) + length (exits net m) ≤ length net.queues → length net.queues < 2 ^ 32 → (next_event net m turn ≡ Close → ⊥) → turn.part + 1 < 2 ^ 32
   part_fits m turn few small =
       by_next net (λ e. (e ≡ Close → ⊥) → turn.part + 1 < 2 ^ 32) m turn
-        (λ k ne. omega (arith, takes_few m turn.fired))
-        (λ j k ne. omega (arith, takes_few m turn.fired))
-        (λ k ne. absurd (ne refl))
+      (λ k ne. omega (arith, takes_few m turn.fired))
+      (λ j k ne. omega (arith, takes_few m turn.fired))
+      (λ k ne. absurd (ne refl))
 
   pub after_is : (state : List Turn) (m : ℕ) (turn next : Turn) (event : Event) → turn ≡ turn_at state m → event ≡ next_event net m turn → next ≡ turn_after event turn → set state m next ≡ after net state m
   unfolding after
@@ -112,9 +112,10 @@ module _ (net : Net) (firings : ℕ) (state : List Turn) (m : ℕ) where
   -- a module can step exactly where its next event is an event of the machine
   pub can_step_iff : IsNetwork net → IsLawful net firings state → m < length net.modules → (can_step net firings state m ≡ true) ↔ IsEvent net firings state m
   unfolding can_step
-  can_step_iff network lawful h =
-      ( (λ e. let p = and_parts _ _ e in record { left = ltb-true _ _ p.0; lawful = IsLawful-after net firings state m lawful h (ltb-true _ _ p.0) p.1 })
-      , (λ e. and_from _ _ (lt-ltb _ _ e.left) (possible_if_lawful net firings state m network lawful h e.lawful)))
+  can_step_iff network lawful h = (
+    (λ e. let p = and_parts _ _ e in record { left = ltb-true _ _ p.0; lawful = IsLawful-after net firings state m lawful h (ltb-true _ _ p.0) p.1 }),
+    (λ e. and_from _ _ (lt-ltb _ _ e.left) (possible_if_lawful net firings state m network lawful h e.lawful)),
+  )
 
   abbrev next : Event
   next = next_event net m (turn_at state m)
@@ -155,13 +156,14 @@ module _ (net : Net) (firings : ℕ) (state : List Turn) (m : ℕ) where
   -- a module waits for none exactly where it has no firing left or can step
   pub waits_none_iff : (o : Option ℕ) → o ≡ waits_for net firings state m → IsNone o ↔ ((has_firing net firings state m ≡ false) ⊎ (can_step net firings state m ≡ true))
   unfolding can_step
-  waits_none_iff o is =
-      ( (λ n. let none : IsNone (waits_for net firings state m) = subst IsNone is n in
-          ⊎_elim
-            (λ left. inr (and_from _ _ left (⊎_elim (λ p. p)
-              (λ p. has_no_end next (subst IsNone (waits_on true (and_from _ _ left (not_from_false _ p))) none))
-              (cases_Bool (is_possible net state next)))))
-            (λ gone. inl gone)
-            (cases_Bool (has_firing net firings state m)))
-      , (λ s. subst IsNone (waits_none
-          (⊎_elim (λ gone. and_left _ _ gone) (λ can. and_no (has_firing net firings state m) _ (and_parts _ _ can).1) s) ∙ sym is) refl))
+  waits_none_iff o is = (
+    (λ n. let none : IsNone (waits_for net firings state m) = subst IsNone is n in
+        ⊎_elim
+        (λ left. inr (and_from _ _ left (⊎_elim (λ p. p)
+        (λ p. has_no_end next (subst IsNone (waits_on true (and_from _ _ left (not_from_false _ p))) none))
+        (cases_Bool (is_possible net state next)))))
+        (λ gone. inl gone)
+        (cases_Bool (has_firing net firings state m))),
+    (λ s. subst IsNone (waits_none
+        (⊎_elim (λ gone. and_left _ _ gone) (λ can. and_no (has_firing net firings state m) _ (and_parts _ _ can).1) s) ∙ sym is) refl),
+  )

@@ -9,3 +9,5 @@ pub mod Listing
 pub mod Scans
 pub mod Facts
 pub mod TwoReads
+pub mod ByPort
+pub mod Visits

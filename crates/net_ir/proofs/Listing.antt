@@ -1,5 +1,5 @@
 -- How the lists of the queues at each module grow.
-use Rattle.std.proofs.Common.{◌≡◌, ◌<◌, ◌≤◌, ◌+◌, ◌==◌, nat_lt, ℕ, Bool, true, false, cond, List, [], ◌∷◌, ◌++◌, length, take, drop, get_or, append_assoc, All, set, length-set, get_or-set_same, get_or-set_other, add-one, refl, sym, ap, ◌∙◌, subst, ⊎_elim, arith}
+use Rattle.std.proofs.Common.{◌≡◌, ◌<◌, ◌≤◌, ◌+◌, ◌==◌, ℕ, Bool, true, false, cond, List, [], ◌∷◌, ◌++◌, length, take, drop, get_or, append_assoc, All, set, length-set, get_or-set_same, get_or-set_other, add-one, refl, sym, ap, ◌∙◌, subst, ⊎_elim, arith}
 use Rattle.std.proofs.lemmas.List.{drop_more, take_more, drop_all, get_or_default}
 use Rattle.std.specs.List.{insert}
 use Rattle.std.proofs.lemmas.Bool.{lt-ltb, le-ltb, cases_eq, eq-eqb, ne_eqb}
@@ -51,15 +51,15 @@ half_listed queues ends k new old h ins outs =
     record {
       whole = length-set ends t new;
       entrances_at = λ m d j. ⊎_elim
-        (λ e. subst (λ x. (get_or (set ends t new) x d).entrances.items ≡ entrances_among queues x (k + 1)) e
+          (λ e. subst (λ x. (get_or (set ends t new) x d).entrances.items ≡ entrances_among queues x (k + 1)) e
           (ap (λ (x : Ends). x.entrances.items) (get_or-set_same ends t new d h) ∙ ins ∙ sym (entrances_one queues t k true (eq-eqb t t refl))))
-        (λ ne. ap (λ (x : Ends). x.entrances.items) (get_or-set_other ends t m new d (λ e. ne (sym e))) ∙ old.entrances_at m d j ∙ sym (entrances_one queues m k false (ne_eqb t m ne)))
-        (cases_eq t m);
+          (λ ne. ap (λ (x : Ends). x.entrances.items) (get_or-set_other ends t m new d (λ e. ne (sym e))) ∙ old.entrances_at m d j ∙ sym (entrances_one queues m k false (ne_eqb t m ne)))
+          (cases_eq t m);
       exits_at = λ m d j. ⊎_elim
-        (λ e. subst (λ x. (get_or (set ends t new) x d).exits.items ≡ exits_among queues x k) e
+          (λ e. subst (λ x. (get_or (set ends t new) x d).exits.items ≡ exits_among queues x k) e
           (ap (λ (x : Ends). x.exits.items) (get_or-set_same ends t new d h) ∙ outs))
-        (λ ne. ap (λ (x : Ends). x.exits.items) (get_or-set_other ends t m new d (λ e. ne (sym e))) ∙ old.exits_at m d j)
-        (cases_eq t m);
+          (λ ne. ap (λ (x : Ends). x.exits.items) (get_or-set_other ends t m new d (λ e. ne (sym e))) ∙ old.exits_at m d j)
+          (cases_eq t m);
     }
 
 whole_listed : (queues : List Queue) (modules : ℕ) (ends : List Ends) (k : ℕ) (new : Ends) → IsHalfListed queues modules k ends → (queue_at queues k).from < modules → ((d : Ends) → new.entrances.items ≡ (get_or ends (queue_at queues k).from d).entrances.items) → ((d : Ends) → new.exits.items ≡ (get_or ends (queue_at queues k).from d).exits.items ++ k ∷ []) → IsListed queues modules (k + 1) (set ends (queue_at queues k).from new)
@@ -69,15 +69,15 @@ whole_listed queues modules ends k new old h ins outs =
     record {
       whole = length-set ends f new ∙ old.whole;
       entrances_at = λ m d j. ⊎_elim
-        (λ e. subst (λ x. (get_or (set ends f new) x d).entrances.items ≡ entrances_among queues x (k + 1)) e
+          (λ e. subst (λ x. (get_or (set ends f new) x d).entrances.items ≡ entrances_among queues x (k + 1)) e
           (ap (λ (x : Ends). x.entrances.items) (get_or-set_same ends f new d within) ∙ ins d ∙ old.entrances_at f d h))
-        (λ ne. ap (λ (x : Ends). x.entrances.items) (get_or-set_other ends f m new d (λ e. ne (sym e))) ∙ old.entrances_at m d j)
-        (cases_eq f m);
+          (λ ne. ap (λ (x : Ends). x.entrances.items) (get_or-set_other ends f m new d (λ e. ne (sym e))) ∙ old.entrances_at m d j)
+          (cases_eq f m);
       exits_at = λ m d j. ⊎_elim
-        (λ e. subst (λ x. (get_or (set ends f new) x d).exits.items ≡ exits_among queues x (k + 1)) e
+          (λ e. subst (λ x. (get_or (set ends f new) x d).exits.items ≡ exits_among queues x (k + 1)) e
           (ap (λ (x : Ends). x.exits.items) (get_or-set_same ends f new d within) ∙ outs d ∙ ap (λ xs. xs ++ k ∷ []) (old.exits_at f d h) ∙ sym (exits_one queues f k true (eq-eqb f f refl))))
-        (λ ne. ap (λ (x : Ends). x.exits.items) (get_or-set_other ends f m new d (λ e. ne (sym e))) ∙ old.exits_at m d j ∙ sym (exits_one queues m k false (ne_eqb f m ne)))
-        (cases_eq f m);
+          (λ ne. ap (λ (x : Ends). x.exits.items) (get_or-set_other ends f m new d (λ e. ne (sym e))) ∙ old.exits_at m d j ∙ sym (exits_one queues m k false (ne_eqb f m ne)))
+          (cases_eq f m);
     }
 
 -- one queue more at its two ends: what was there, and what is there now
@@ -86,12 +86,12 @@ listed_further queues ends k was now from into old to_in from_in was_is more sam
     let t : ℕ = (queue_at queues k).to in
     let f : ℕ = (queue_at queues k).from in
     let half = half_listed queues ends k now old to_in
-      (more ∙ ap (λ (x : Ends). put_by_port queues k x.entrances.items) was_is ∙ ap (put_by_port queues k) (old.entrances_at t was to_in))
-      (same ∙ ap (λ (x : Ends). x.exits.items) was_is ∙ old.exits_at t was to_in) in
+    (more ∙ ap (λ (x : Ends). put_by_port queues k x.entrances.items) was_is ∙ ap (put_by_port queues k) (old.entrances_at t was to_in))
+    (same ∙ ap (λ (x : Ends). x.exits.items) was_is ∙ old.exits_at t was to_in) in
     let there : f < length (set ends t now) = omega (arith, length-set ends t now) in
     whole_listed queues (length ends) (set ends t now) k into half from_in
-      (λ d. kept ∙ ap (λ (x : Ends). x.entrances.items) (from_is ∙ get_or_default (set ends t now) f from d there))
-      (λ d. added ∙ ap (λ (x : Ends). x.exits.items ++ k ∷ []) (from_is ∙ get_or_default (set ends t now) f from d there))
+    (λ d. kept ∙ ap (λ (x : Ends). x.entrances.items) (from_is ∙ get_or_default (set ends t now) f from d there))
+    (λ d. added ∙ ap (λ (x : Ends). x.exits.items ++ k ∷ []) (from_is ∙ get_or_default (set ends t now) f from d there))
 
 pub listed_none : (queues : List Queue) (modules : ℕ) (ends : List Ends) → length ends ≡ modules → All (λ e. (e.entrances.items ≡ []) × (e.exits.items ≡ [])) ends → IsListed queues modules 0 ends
 unfolding entrances_among exits_among

@@ -1,5 +1,5 @@
 -- What is left of a scan over the queues at a module.
-use Rattle.std.proofs.Common.{◌≡◌, ◌<◌, ◌≤◌, ◌+◌, ◌-◌, nat_le, nat_eq, ℕ, zero, suc, Bool, true, false, ◌||◌, cond, List, [], ◌∷◌, ◌++◌, length, take, drop, get_or, map, filter, refl, sym, ap, ◌∙◌, subst, arith}
+use Rattle.std.proofs.Common.{◌≡◌, ◌<◌, ◌≤◌, ◌+◌, ◌-◌, nat_le, nat_eq, ℕ, zero, suc, Bool, true, false, ◌||◌, cond, List, [], ◌∷◌, length, take, drop, get_or, filter, refl, sym, ap, ◌∙◌, subst, arith}
 use Rattle.std.specs.List.{list_any}
 use Rattle.std.proofs.lemmas.List.{drop_more, drop_all}
 use Rattle.std.proofs.lemmas.Bool.{le-leb, lt-leb, eq-eqb, ne_eqb, or_left}
@@ -9,7 +9,7 @@ use Rattle.net_ir.specs.declared.events.Event.TheVariants.{Take, Send, Close}
 use Rattle.net_ir.specs.Nets.{Net, queue_at, entrances, exits}
 use Rattle.net_ir.specs.declared.events.Turn.{Turn}
 use Rattle.net_ir.specs.Firings.{takes, events}
-use Rattle.net_ir.specs.States.{taken_now, sent_now, next_event, once, taken_by, sent_by}
+use Rattle.net_ir.specs.States.{taken_now, sent_now, next_event, taken_by, sent_by}
 use Rattle.net_ir.proofs.Effects.{event_list}
 
 -- those of a list of queues with a lead of at most k

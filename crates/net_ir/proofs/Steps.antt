@@ -1,5 +1,5 @@
 -- Events keep states lawful.
-use Rattle.std.proofs.Common.{◌≡◌, ◌≢◌, ◌<◌, ◌≤◌, ◌+◌, ◌-◌, nat_lt, ℕ, zero, suc, Bool, true, false, ◌&&◌, cond, nat_eq, List, [], ◌∷◌, length, length-set, take, get_or, set, map, refl, sym, ap, ◌∙◌, subst, ⊎_elim, arith, rules, get_or-set_same, get_or-set_other}
+use Rattle.std.proofs.Common.{◌≡◌, ◌<◌, ◌≤◌, ◌+◌, ◌-◌, ℕ, true, false, cond, nat_eq, List, [], ◌∷◌, length, length-set, take, get_or, set, map, refl, sym, ap, ◌∙◌, subst, ⊎_elim, arith, get_or-set_same, get_or-set_other}
 use Rattle.std.proofs.lemmas.Bool.{cases_Bool, cases_lt, cases_eq, eqb-true, eq-eqb, ltb-true, lt-ltb, and_parts}
 use Rattle.std.proofs.lemmas.List.{get_or-map, length-map, get_or_past}
 use Rattle.net_ir.specs.declared.network.Module.{Module}
@@ -9,7 +9,7 @@ use Rattle.net_ir.specs.declared.events.Event.TheVariants.{Take, Send, Close}
 use Rattle.net_ir.specs.declared.events.Turn.{Turn}
 use Rattle.net_ir.specs.Nets.{Net, queue_at, exits, IsNetwork}
 use Rattle.net_ir.specs.Firings.{takes, events, firings_at}
-use Rattle.net_ir.specs.States.{turn_at, unmoved, once, taken_by, sent_by, taken_now, sent_now, taken, sent, next_event, turn_after, after, is_possible, IsTurn, IsLawful, zeros, has_firing, can_step, Run}
+use Rattle.net_ir.specs.States.{turn_at, unmoved, once, taken_by, sent_by, taken_now, sent_now, taken, sent, next_event, turn_after, after, is_possible, IsTurn, IsLawful, zeros, can_step, Run}
 use Rattle.net_ir.proofs.Distinct.{has, has-get_or, lacks-before}
 use Rattle.net_ir.proofs.Ends.{Distinct-exits_among}
 use Rattle.net_ir.proofs.Effects.{taken_more, sent_more, taken-after, sent-after, by_next, length-events, take_is, send_is, Distinct-takes}
@@ -39,7 +39,7 @@ module _ (net : Net) (state : List Turn) where
       let now : has n (take turn.part ins) ≡ false = subst (λ j. has n (take j ins) ≡ false) at lacks in
       let nothing : once n (taken_now net m turn) ≡ 0 = ap {B = ℕ} (λ b. cond b 1 0) now in
       let here : taken_by net n turn ≡ turn.fired - (queue_at net.queues n).lead =
-        ap (λ x. (turn.fired - (queue_at net.queues n).lead) + once n (taken_now net x turn)) e ∙ omega (arith, nothing) in
+      ap (λ x. (turn.fired - (queue_at net.queues n).lead) + once n (taken_now net x turn)) e ∙ omega (arith, nothing) in
       ap (λ x. taken_by net n (turn_at state x)) e ∙ here
 
   -- the sends of a queue whose send is its sender's next event
@@ -66,17 +66,17 @@ module _ (net : Net) (firings : ℕ) where
   IsTurn-after : (m : ℕ) (turn : Turn) → turn.fired < firings_at net firings m → turn.part < length (events net m turn.fired) → IsTurn net firings m (turn_after (next_event net m turn) turn)
   IsTurn-after m turn left within =
       by_next net (λ e. IsTurn net firings m (turn_after e turn)) m turn
-        (λ k. record { completed = omega arith; running = omega (arith, length-events net m turn.fired); over = λ e. absurd (omega arith) })
-        (λ j k. record { completed = omega arith; running = omega (arith, length-events net m turn.fired); over = λ e. absurd (omega arith) })
-        (λ k. record { completed = omega arith; running = omega (arith, length-events net m (turn.fired + 1)); over = λ e. refl })
+      (λ k. record { completed = omega arith; running = omega (arith, length-events net m turn.fired); over = λ e. absurd (omega arith) })
+      (λ j k. record { completed = omega arith; running = omega (arith, length-events net m turn.fired); over = λ e. absurd (omega arith) })
+      (λ k. record { completed = omega arith; running = omega (arith, length-events net m (turn.fired + 1)); over = λ e. refl })
 
   low_kept : (state : List Turn) (e : Event) (n : ℕ) → is_possible net state e ≡ true → taken net state n ≤ sent net state n → taken net state n + taken_more e n ≤ sent net state n + sent_more e n
   unfolding is_possible
   low_kept state (Take x) n p h =
       ⊎_elim
-        (λ e. let now : taken net state n < sent net state n = subst (λ y. taken net state y < sent net state y) (sym (eqb-true n x e)) (ltb-true _ _ p) in omega (arith, ap {B = ℕ} (λ b. cond b 1 0) e))
-        (λ e. omega (arith, ap {B = ℕ} (λ b. cond b 1 0) e))
-        (cases_Bool (nat_eq n x))
+      (λ e. let now : taken net state n < sent net state n = subst (λ y. taken net state y < sent net state y) (sym (eqb-true n x e)) (ltb-true _ _ p) in omega (arith, ap {B = ℕ} (λ b. cond b 1 0) e))
+      (λ e. omega (arith, ap {B = ℕ} (λ b. cond b 1 0) e))
+      (cases_Bool (nat_eq n x))
   low_kept state (Send x) n p h = omega arith
   low_kept state Close n p h = omega arith
 
@@ -85,18 +85,18 @@ module _ (net : Net) (firings : ℕ) where
   high_kept state (Take x) n p h = omega arith
   high_kept state (Send x) n p h =
       ⊎_elim
-        (λ e. let now : sent net state n < taken net state n + (queue_at net.queues n).capacity = subst (λ y. sent net state y < taken net state y + (queue_at net.queues y).capacity) (sym (eqb-true n x e)) (ltb-true _ _ p) in omega (arith, ap {B = ℕ} (λ b. cond b 1 0) e))
-        (λ e. omega (arith, ap {B = ℕ} (λ b. cond b 1 0) e))
-        (cases_Bool (nat_eq n x))
+      (λ e. let now : sent net state n < taken net state n + (queue_at net.queues n).capacity = subst (λ y. sent net state y < taken net state y + (queue_at net.queues y).capacity) (sym (eqb-true n x e)) (ltb-true _ _ p) in omega (arith, ap {B = ℕ} (λ b. cond b 1 0) e))
+      (λ e. omega (arith, ap {B = ℕ} (λ b. cond b 1 0) e))
+      (cases_Bool (nat_eq n x))
   high_kept state Close n p h = omega arith
 
   -- the turns in a state where one was replaced
   pub turns-set : (state : List Turn) (m : ℕ) (turn : Turn) → m < length state → ((n : ℕ) → n < length net.modules → IsTurn net firings n (turn_at state n)) → IsTurn net firings m turn → (n : ℕ) → n < length net.modules → IsTurn net firings n (turn_at (set state m turn) n)
   turns-set state m turn h all new n k =
       ⊎_elim
-        (λ e. subst (λ x. IsTurn net firings x (turn_at (set state m turn) x)) (sym e) (subst (IsTurn net firings m) (sym (get_or-set_same state m turn unmoved h)) new))
-        (λ ne. subst (IsTurn net firings n) (sym (get_or-set_other state m n turn unmoved ne)) (all n k))
-        (cases_eq n m)
+      (λ e. subst (λ x. IsTurn net firings x (turn_at (set state m turn) x)) (sym e) (subst (IsTurn net firings m) (sym (get_or-set_same state m turn unmoved h)) new))
+      (λ ne. subst (IsTurn net firings n) (sym (get_or-set_other state m n turn unmoved ne)) (all n k))
+      (cases_eq n m)
 
   -- a possible event keeps a state lawful
   pub IsLawful-after : (state : List Turn) (m : ℕ) → IsLawful net firings state → m < length net.modules → (turn_at state m).fired < firings_at net firings m → is_possible net state (next_event net m (turn_at state m)) ≡ true → IsLawful net firings (after net state m)
@@ -119,22 +119,22 @@ module _ (net : Net) (firings : ℕ) where
       let turn : Turn = turn_at state m in
       let running : turn.part < length (events net m turn.fired) = (l.turns m h).running in
       by_next net (λ e. ((n : ℕ) → n < length net.queues → taken net state n + taken_more e n ≤ sent net state n + sent_more e n) → ((n : ℕ) → n < length net.queues → sent net state n + sent_more e n ≤ (taken net state n + taken_more e n) + (queue_at net.queues n).capacity) → is_possible net state e ≡ true) m turn
-        (λ k low high. let x : ℕ = get_or (takes net m turn.fired) turn.part 0 in
-          let q = (take_is net m turn.fired x (has-get_or (takes net m turn.fired) turn.part 0 k)).0 in
-          lt-ltb (taken net state x) (sent net state x) (omega (arith, low x q, ap {B = ℕ} (λ b. cond b 1 0) (eq-eqb x x refl))))
-        (λ j k low high. let x : ℕ = get_or (exits net m) (turn.part - length (takes net m turn.fired)) 0 in
-          let q = (send_is net m x (has-get_or (exits net m) (turn.part - length (takes net m turn.fired)) 0 (omega arith))).0 in
-          lt-ltb (sent net state x) (taken net state x + (queue_at net.queues x).capacity) (omega (arith, high x q, ap {B = ℕ} (λ b. cond b 1 0) (eq-eqb x x refl))))
-        (λ k low high. refl)
-        (λ n k. omega (arith, taken-after net state m n within k running, sent-after net state m n within k running, new.low n k))
-        (λ n k. omega (arith, taken-after net state m n within k running, sent-after net state m n within k running, new.high n k))
+      (λ k low high. let x : ℕ = get_or (takes net m turn.fired) turn.part 0 in
+      let q = (take_is net m turn.fired x (has-get_or (takes net m turn.fired) turn.part 0 k)).0 in
+      lt-ltb (taken net state x) (sent net state x) (omega (arith, low x q, ap {B = ℕ} (λ b. cond b 1 0) (eq-eqb x x refl))))
+      (λ j k low high. let x : ℕ = get_or (exits net m) (turn.part - length (takes net m turn.fired)) 0 in
+      let q = (send_is net m x (has-get_or (exits net m) (turn.part - length (takes net m turn.fired)) 0 (omega arith))).0 in
+      lt-ltb (sent net state x) (taken net state x + (queue_at net.queues x).capacity) (omega (arith, high x q, ap {B = ℕ} (λ b. cond b 1 0) (eq-eqb x x refl))))
+      (λ k low high. refl)
+      (λ n k. omega (arith, taken-after net state m n within k running, sent-after net state m n within k running, new.low n k))
+      (λ n k. omega (arith, taken-after net state m n within k running, sent-after net state m n within k running, new.high n k))
 
   pub turn_at-zeros : (modules : List Module) (m : ℕ) → turn_at (map (λ _. unmoved) modules) m ≡ unmoved
   turn_at-zeros modules m =
       ⊎_elim
-        (λ h. get_or-map (λ (_ : Module). unmoved) modules m (Sink 0) unmoved h)
-        (λ h. get_or_past (map (λ (_ : Module). unmoved) modules) m unmoved (omega (arith, length-map modules (λ (_ : Module). unmoved))))
-        (cases_lt m (length modules))
+      (λ h. get_or-map (λ (_ : Module). unmoved) modules m (Sink 0) unmoved h)
+      (λ h. get_or_past (map (λ (_ : Module). unmoved) modules) m unmoved (omega (arith, length-map modules (λ (_ : Module). unmoved))))
+      (cases_lt m (length modules))
 
   -- the state of zeros is lawful
   pub IsLawful-zeros : IsLawful net firings (zeros net)

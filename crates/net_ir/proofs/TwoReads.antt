@@ -1,6 +1,6 @@
 -- The example network.
-use Rattle.std.proofs.Common.{◌≡◌, ◌≢◌, ◌<◌, ◌≤◌, ◌+◌, ℕ, zero, suc, length, refl, arith}
-use Rattle.net_ir.specs.Nets.{Net, queue_at, age_at, FitsOrder, IsOrderly, IsNetwork}
+use Rattle.std.proofs.Common.{◌≡◌, ◌≢◌, ◌<◌, ◌≤◌, ◌+◌, ℕ, zero, suc, arith}
+use Rattle.net_ir.specs.Nets.{queue_at, IsOrderly, IsNetwork}
 use Rattle.net_ir.specs.Worked.{two_reads}
 
 pub two_reads_orderly : IsOrderly (two_reads 4)
@@ -28,10 +28,10 @@ two_reads_network capacity = record {
   to = at_five (λ n. (queue_at (two_reads capacity).queues n).to < 5) (omega arith) (omega arith) (omega arith) (omega arith) (omega arith);
   ends = at_five (λ n. (queue_at (two_reads capacity).queues n).from ≢ (queue_at (two_reads capacity).queues n).to) (λ e. omega arith) (λ e. omega arith) (λ e. omega arith) (λ e. omega arith) (λ e. omega arith);
   ports = λ i j h k. at_five (λ y. (x : ℕ) → x < y → (queue_at (two_reads capacity).queues x).to ≡ (queue_at (two_reads capacity).queues y).to → (queue_at (two_reads capacity).queues x).port ≢ (queue_at (two_reads capacity).queues y).port)
-    (λ x l. absurd (omega arith))
-    (λ x l. at_five (λ z. z < 1 → (queue_at (two_reads capacity).queues z).to ≡ 2 → (queue_at (two_reads capacity).queues z).port ≢ 0) (λ _ t p. omega arith) (λ m t p. omega arith) (λ m t p. omega arith) (λ m t p. omega arith) (λ m t p. omega arith) x (omega arith) l)
-    (λ x l. at_five (λ z. z < 2 → (queue_at (two_reads capacity).queues z).to ≡ 0 → (queue_at (two_reads capacity).queues z).port ≢ 0) (λ _ t p. omega arith) (λ _ t p. omega arith) (λ m t p. omega arith) (λ m t p. omega arith) (λ m t p. omega arith) x (omega arith) l)
-    (λ x l. at_five (λ z. z < 3 → (queue_at (two_reads capacity).queues z).to ≡ 3 → (queue_at (two_reads capacity).queues z).port ≢ 1) (λ _ t p. omega arith) (λ _ t p. omega arith) (λ _ t p. omega arith) (λ m t p. omega arith) (λ m t p. omega arith) x (omega arith) l)
-    (λ x l. at_five (λ z. z < 4 → (queue_at (two_reads capacity).queues z).to ≡ 4 → (queue_at (two_reads capacity).queues z).port ≢ 0) (λ _ t p. omega arith) (λ _ t p. omega arith) (λ _ t p. omega arith) (λ _ t p. omega arith) (λ m t p. omega arith) x (omega arith) l)
-    j k i h;
+      (λ x l. absurd (omega arith))
+      (λ x l. at_five (λ z. z < 1 → (queue_at (two_reads capacity).queues z).to ≡ 2 → (queue_at (two_reads capacity).queues z).port ≢ 0) (λ _ t p. omega arith) (λ m t p. omega arith) (λ m t p. omega arith) (λ m t p. omega arith) (λ m t p. omega arith) x (omega arith) l)
+      (λ x l. at_five (λ z. z < 2 → (queue_at (two_reads capacity).queues z).to ≡ 0 → (queue_at (two_reads capacity).queues z).port ≢ 0) (λ _ t p. omega arith) (λ _ t p. omega arith) (λ m t p. omega arith) (λ m t p. omega arith) (λ m t p. omega arith) x (omega arith) l)
+      (λ x l. at_five (λ z. z < 3 → (queue_at (two_reads capacity).queues z).to ≡ 3 → (queue_at (two_reads capacity).queues z).port ≢ 1) (λ _ t p. omega arith) (λ _ t p. omega arith) (λ _ t p. omega arith) (λ m t p. omega arith) (λ m t p. omega arith) x (omega arith) l)
+      (λ x l. at_five (λ z. z < 4 → (queue_at (two_reads capacity).queues z).to ≡ 4 → (queue_at (two_reads capacity).queues z).port ≢ 0) (λ _ t p. omega arith) (λ _ t p. omega arith) (λ _ t p. omega arith) (λ _ t p. omega arith) (λ m t p. omega arith) x (omega arith) l)
+      j k i h;
 }

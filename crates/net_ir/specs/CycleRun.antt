@@ -1,5 +1,5 @@
 -- Cycles, in which each module is visited once in firing order and fires wholly or not at all.
-use Rattle.std.specs.Prelude.{◌≡◌, ◌<◌, ◌≤◌, ◌+◌, ◌↔◌, ℕ, zero, suc, Bool, false, not, ◌&&◌, List, [], ◌∷◌, length, take, slice_index_or, slice_set, count_by, if◌then◌else◌}
+use Rattle.std.specs.Prelude.{◌≡◌, ◌<◌, ◌≤◌, ◌+◌, ◌↔◌, ℕ, zero, suc, Bool, false, not, ◌&&◌, List, [], ◌∷◌, ◌++◌, length, take, drop, slice_index_or, slice_set, count_by, if◌then◌else◌}
 use Rattle.std.specs.List.{list_any, list_all}
 use Rattle.net_ir.specs.declared.events.Turn.{Turn}
 use Rattle.net_ir.specs.Nets.{Net, age_at}
@@ -32,6 +32,12 @@ met net firings stalled state (suc m) = visit net firings stalled (met net firin
 -- the state after a cycle
 abbrev pub cycle : Net → ℕ → List Bool → List Turn → List Turn
 cycle net firings stalled state = met net firings stalled state (length net.modules)
+
+-- A cycle visits each module once, in firing order: a module meets the modules before it as the cycle leaves them and
+-- the others as the cycle finds them, and the cycle leaves it with one firing more where it fires there, else as it was.
+pub record VisitsEachOnce (net : Net) (firings : ℕ) (stalled : List Bool) (state : List Turn) : Type 0 where
+  pub meets : (m : ℕ) → m < length net.modules → met net firings stalled state m ≡ take m (cycle net firings stalled state) ++ drop m state
+  pub leaves : (m : ℕ) → m < length net.modules → turn_at (cycle net firings stalled state) m ≡ (if fires net firings stalled (met net firings stalled state m) m then fired_wholly (turn_at state m) else turn_at state m)
 
 -- how many numbers below n pass a test
 abbrev pub count_below : (ℕ → Bool) → ℕ → ℕ

@@ -1,5 +1,5 @@
 -- The events of a firing.
-use Rattle.std.specs.Prelude.{◌+◌, ◌-◌, nat_le, ℕ, List, [], ◌∷◌, ◌++◌, map, filter}
+use Rattle.std.specs.Prelude.{◌-◌, nat_le, ℕ, List, [], ◌∷◌, ◌++◌, map, filter}
 use Rattle.net_ir.specs.declared.events.Event.{Event}
 use Rattle.net_ir.specs.declared.events.Event.TheVariants.{Take, Send, Close}
 use Rattle.net_ir.specs.Nets.{Net, age_at, queue_at, entrances, exits}

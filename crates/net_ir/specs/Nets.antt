@@ -1,5 +1,5 @@
 -- Networks: modules in firing order, and the queues between them.
-use Rattle.std.specs.Prelude.{◌≡◌, ◌≢◌, ◌<◌, ◌≤◌, ◌+◌, ◌^◌, ◌==◌, nat_lt, ℕ, zero, suc, List, [], ◌∷◌, ◌++◌, length, slice_index_or, if◌then◌else◌}
+use Rattle.std.specs.Prelude.{◌≡◌, ◌≢◌, ◌↔◌, Contains, AllPairs, ◌<◌, ◌≤◌, ◌+◌, ◌==◌, nat_lt, ℕ, zero, suc, List, [], ◌∷◌, ◌++◌, length, slice_index_or, if◌then◌else◌}
 use Rattle.net_ir.specs.declared.network.Module.{Module}
 use Rattle.net_ir.specs.declared.network.Module.TheVariants.{Source, Forward, Compute, Sink}
 use Rattle.net_ir.specs.declared.network.Queue.{Queue}
@@ -56,6 +56,16 @@ pub record IsNetwork (net : Net) : Type 0 where
   pub to : (n : ℕ) → n < length net.queues → (queue_at net.queues n).to < length net.modules
   pub ends : (n : ℕ) → n < length net.queues → (queue_at net.queues n).from ≢ (queue_at net.queues n).to
   pub ports : (i j : ℕ) → i < j → j < length net.queues → (queue_at net.queues i).to ≡ (queue_at net.queues j).to → (queue_at net.queues i).port ≢ (queue_at net.queues j).port
+
+-- the list of the queues that end at a module has each of them, in the rising order of their ports
+pub record StandByPort (net : Net) (m : ℕ) : Type 0 where
+  pub all : (n : ℕ) → Contains (entrances net m) n ↔ ((n < length net.queues) × ((queue_at net.queues n).to ≡ m))
+  pub rising : AllPairs (λ x y. (queue_at net.queues x).port < (queue_at net.queues y).port) (entrances net m)
+
+-- the list of the queues that begin at a module has each of them, in queue order
+pub record StandInOrder (net : Net) (m : ℕ) : Type 0 where
+  pub all : (n : ℕ) → Contains (exits net m) n ↔ ((n < length net.queues) × ((queue_at net.queues n).from ≡ m))
+  pub rising : AllPairs (λ x y. x < y) (exits net m)
 
 -- A queue fits the firing order. Its receiver takes an item no earlier than the sender's age lets it be sent, and the
 -- queue holds what is sent until the receiver's age and lead let it be taken; the end that waits for a later module

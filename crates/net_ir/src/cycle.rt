@@ -28,9 +28,7 @@ fn takes_possible(net: &Network, counts: &Counts, module: u32, firing: u64) -> b
 {
     let ports = net.entrances(module);
     for queue in ports {
-        if queue_of(net, *queue).lead <= firing
-            && !is_possible(net, counts, Event::Take(*queue))
-        {
+        if queue_of(net, *queue).lead <= firing && !is_possible(net, counts, Event::Take(*queue)) {
             return false;
         }
     }

@@ -1,9 +1,9 @@
-ghost use Rattle.std.specs.Prelude.{◌≡◌, ◌<◌, ℕ, Bool, List};
+ghost use Rattle.std.specs.Prelude.{◌≡◌, ℕ, Bool, List, length};
 ghost use Rattle.net_ir.specs.declared.events.Turn.{Turn};
-ghost use Rattle.net_ir.specs.Nets.{Net, IsNetwork, IsOrderly};
+ghost use Rattle.net_ir.specs.Nets.{Net, IsNetwork, IsOrderly, StandByPort, StandInOrder};
 ghost use Rattle.net_ir.specs.States.{zeros, Run, IsLawful};
 ghost use Rattle.net_ir.specs.Waits.{NoRing, GoesOn};
-ghost use Rattle.net_ir.specs.CycleRun.{EndsInTime};
+ghost use Rattle.net_ir.specs.CycleRun.{EndsInTime, VisitsEachOnce};
 ghost use Rattle.net_ir.specs.Worked.{two_reads};
 
 /// Each state of each run of events is lawful.
@@ -29,4 +29,15 @@ pub fn capacity_decides()
     ensures network { (capacity : ℕ) → IsNetwork (two_reads capacity) }
     ensures four { IsOrderly (two_reads 4) }
     ensures one { IsOrderly (two_reads 1) → ⊥ }
+{}
+
+/// The lists of the queues at a module have each of its queues, those to it by port and those from it in queue order.
+pub fn queues_stand_in_order()
+    ensures to { (net : Net) (m : ℕ) → IsNetwork net → StandByPort net m }
+    ensures from { (net : Net) (m : ℕ) → StandInOrder net m }
+{}
+
+/// A cycle visits each module once, in firing order.
+pub fn cycles_visit_each_once()
+    ensures { (net : Net) (firings : ℕ) (stalled : List Bool) (state : List Turn) → length state ≡ length net.modules → VisitsEachOnce net firings stalled state }
 {}

@@ -13,5 +13,8 @@ mod tests;
 pub use counts::{Counts, can_step, finished, step, waits_for};
 pub use cycle::{CycleCount, count_cycle};
 pub use events::{Event, Turn};
-pub use laws::{capacity_decides, cycles_end_in_time, no_ring_of_waits, runs_are_lawful};
+pub use laws::{
+    capacity_decides, cycles_end_in_time, cycles_visit_each_once, no_ring_of_waits,
+    queues_stand_in_order, runs_are_lawful,
+};
 pub use network::{Module, Network, NoMemory, Queue};

@@ -91,7 +91,9 @@ fn has_sent(net: &Network, module: u32, turn: Turn, queue: u32) -> bool
         return false;
     }
     let sends = net.exits(module);
-    let mut left = turn.part.saturating_sub(take_count(net, module, turn.fired));
+    let mut left = turn
+        .part
+        .saturating_sub(take_count(net, module, turn.fired));
     for other in sends {
         if left == 0 {
             return false;

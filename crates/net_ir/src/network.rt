@@ -80,11 +80,7 @@ impl Module {
 
 impl Network {
     /// A network of these modules, in firing order, and these queues.
-    pub fn new(
-        alloc: Global,
-        modules: Vec<Module>,
-        queues: Vec<Queue>,
-    ) -> Result<Network, NoMemory>
+    pub fn new(alloc: Global, modules: Vec<Module>, queues: Vec<Queue>) -> Result<Network, NoMemory>
         requires network { IsNetwork (record { modules = modules.items; queues = queues.items }) }
         requires modules { length modules.items < 2 ^ 32 }
         requires queues { length queues.items < 2 ^ 32 }

@@ -112,12 +112,7 @@ fn all_waits(alloc: Global, net: &Network, counts: &Counts) -> Result<Vec<u32>, 
     Ok(all)
 }
 
-fn ends_stuck(
-    rt: &impl Abort,
-    alloc: Global,
-    net: &Network,
-    order: &[u32],
-) -> Result<(), Fail> {
+fn ends_stuck(rt: &impl Abort, alloc: Global, net: &Network, order: &[u32]) -> Result<(), Fail> {
     let mut counts = Counts::start(alloc, net, 12)?;
     rounds(net, &mut counts, order);
     let fired = all_fired(alloc, net, &counts)?;
@@ -140,12 +135,7 @@ fn a_reuse_queue_too_small_ends_stuck(rt: HostRuntime) -> Result<(), Fail> {
     Ok(())
 }
 
-fn ends_finished(
-    rt: &impl Abort,
-    alloc: Global,
-    net: &Network,
-    order: &[u32],
-) -> Result<(), Fail> {
+fn ends_finished(rt: &impl Abort, alloc: Global, net: &Network, order: &[u32]) -> Result<(), Fail> {
     let mut counts = Counts::start(alloc, net, 12)?;
     rounds(net, &mut counts, order);
     let fired = all_fired(alloc, net, &counts)?;

@@ -1,5 +1,4 @@
-use Rattle.std.proofs.Common.{◌≡◌, ◌<◌, ap, sym, ◌∙◌, subst, arith}
-use Rattle.net_ir.specs.Nets.{queue_at}
+use Rattle.std.proofs.Common.{sym, subst, arith}
 use Rattle.net_ir.specs.States.{IsTurn}
 use Rattle.net_ir.proofs.Facts.{lawful_on, sent_fits}
 use Rattle.net_ir.proofs.counts.sent.Goals as goal

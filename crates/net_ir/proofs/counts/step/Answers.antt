@@ -1,6 +1,6 @@
-use Rattle.std.proofs.Common.{◌≡◌, ◌≢◌, ap, sym, ◌∙◌, subst, set, arith}
+use Rattle.std.proofs.Common.{ap, sym, ◌∙◌, subst, set, arith}
 use Rattle.net_ir.specs.declared.events.Turn.{Turn}
-use Rattle.net_ir.specs.States.{Machine, IsLawful, turn_at, after}
+use Rattle.net_ir.specs.States.{Machine, IsLawful, turn_at}
 use Rattle.net_ir.proofs.Facts.{lawful_on, can_parts, after_is, elsewhere-after}
 use Rattle.net_ir.proofs.Steps.{IsLawful-after}
 use Rattle.net_ir.proofs.counts.step.Goals as goal
@@ -20,7 +20,7 @@ set_turn-requires-clause-lawful c =
     let can = can_parts net old.firings old.state m c.requires.possible in
     let same = after_is net old.state m c.turn-turn.result c.turn_after-next.result c.next_event.result c.turn-turn.ensures.value c.next_event.ensures.value c.turn_after-next.ensures in
     lawful_on net old.network old.firings (set old.state m c.turn_after-next.result) (sym c.requires.started)
-      (subst (IsLawful net old.firings) (sym same) (IsLawful-after net old.firings old.state m lawful c.requires.known can.0 can.1))
+    (subst (IsLawful net old.firings) (sym same) (IsLawful-after net old.firings old.state m lawful c.requires.known can.0 can.1))
 
 pub returns-clause-after : goal.returns-clause-after
 returns-clause-after c =

@@ -1,4 +1,4 @@
-use Rattle.std.proofs.Common.{◌≡◌, true, false, ◌∙◌, sym, ap, refl}
+use Rattle.std.proofs.Common.{true, false, refl}
 use Rattle.std.specs.List.{list_all}
 use Rattle.net_ir.specs.Nets.{exits}
 use Rattle.net_ir.specs.declared.events.Event.TheVariants.{Send}

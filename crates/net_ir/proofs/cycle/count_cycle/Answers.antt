@@ -1,9 +1,7 @@
-use Rattle.std.proofs.Common.{◌≡◌, ◌≤◌, ◌+◌, ◌&&◌, not, ℕ, Bool, true, false, cond, List, ◌∙◌, sym, ap, subst, refl, arith}
-use Rattle.net_ir.specs.declared.events.Turn.{Turn}
-use Rattle.net_ir.specs.States.{Machine, IsLawful, has_firing, Run}
+use Rattle.std.proofs.Common.{◌≡◌, ◌≤◌, ◌&&◌, not, Bool, true, false, cond, ◌∙◌, sym, ap, subst, refl, arith}
+use Rattle.net_ir.specs.States.{Machine, has_firing, Run}
 use Rattle.net_ir.specs.CycleRun.{IsBetween, fires, visit, met, fired_among, held_among}
-use Rattle.net_ir.proofs.Facts.{lawful_on}
-use Rattle.net_ir.proofs.CycleSteps.{Amid, Amid-met, met_one, fired_one, held_one}
+use Rattle.net_ir.proofs.CycleSteps.{Amid-met, met_one, fired_one, held_one}
 use Rattle.net_ir.proofs.cycle.count_cycle.Goals as goal
 
 at_most : (b : Bool) → cond b 1 0 ≤ 1

@@ -1,4 +1,4 @@
-use Rattle.std.proofs.Common.{ℕ, Bool, ◌≡◌, ◌≤◌, ◌∙◌, ap, sym, subst}
+use Rattle.std.proofs.Common.{ℕ, Bool, ◌≤◌, ◌∙◌, ap, sym, subst}
 use Rattle.std.specs.List.{list_all}
 use Rattle.std.proofs.lemmas.Bool.{and_left}
 use Rattle.net_ir.specs.declared.network.Queue.{Queue}

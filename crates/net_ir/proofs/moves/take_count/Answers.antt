@@ -1,4 +1,4 @@
-use Rattle.std.proofs.Common.{◌≡◌, ◌+◌, ◌∙◌, ap, length, [], ℕ, List, arith}
+use Rattle.std.proofs.Common.{ap, length, ℕ, arith}
 use Rattle.net_ir.proofs.Scans.{takes_is, ready_end}
 use Rattle.net_ir.proofs.moves.take_count.Goals as goal
 

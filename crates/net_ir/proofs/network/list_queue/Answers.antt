@@ -1,6 +1,6 @@
 use Rattle.std.proofs.Common.{◌<◌, ap, ◌∙◌, subst, sym, refl, All, arith}
 use Rattle.net_ir.specs.declared.network.Ends.{Ends}
-use Rattle.net_ir.specs.Nets.{queue_at, entrances_among}
+use Rattle.net_ir.specs.Nets.{queue_at}
 use Rattle.net_ir.proofs.Ends.{entrances_known}
 use Rattle.net_ir.proofs.Listing.{listed_further}
 use Rattle.net_ir.proofs.network.list_queue.Goals as goal
@@ -19,8 +19,8 @@ returns-in-Ok c =
     let was : Ends = c.index_mut-to.result.now in
     let from : Ends = c.index_mut-from.result.now in
     listed_further c.args.queues.now c.args.ends.now.items c.args.number
-      was (record { entrances = c.put_by_port.new.ports; exits = was.exits })
-      from (record { entrances = from.entrances; exits = c.push.new.self })
-      c.requires.listed c.requires.to c.requires.from
-      c.index_mut-to.ensures.value c.in_ok-put_by_port.ensures refl
-      c.index_mut-from.ensures.value refl c.in-Ok.ensures.items
+    was (record { entrances = c.put_by_port.new.ports; exits = was.exits })
+    from (record { entrances = from.entrances; exits = c.push.new.self })
+    c.requires.listed c.requires.to c.requires.from
+    c.index_mut-to.ensures.value c.in_ok-put_by_port.ensures refl
+    c.index_mut-from.ensures.value refl c.in-Ok.ensures.items
