@@ -75,6 +75,7 @@ impl Counts {
         ensures lawful { IsLawful self.now.network self.now.firings self.now.state }
         ensures small { self.now.firings < 2 ^ 64 }
     {
+        // A number that is read is known to fit its type.
         let _firings = self.firings;
         self.turns[module as usize]
     }
@@ -118,6 +119,7 @@ pub(crate) fn module_count(net: &Network, counts: &Counts) -> u32
     ensures lawful { IsLawful net.now counts.now.firings counts.now.state }
     ensures network { IsNetwork net.now }
 {
+    // Whatever counts give comes with the fact that their state is lawful.
     let _firings = counts.firings();
     net.modules().len() as u32
 }
