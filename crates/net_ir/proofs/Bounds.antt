@@ -9,7 +9,8 @@ use Rattle.net_ir.specs.declared.events.Turn.{Turn}
 use Rattle.net_ir.specs.Nets.{Net, age_at, queue_at, exits, IsNetwork, IsOrderly}
 use Rattle.net_ir.specs.Firings.{takes, events, firings_at}
 use Rattle.net_ir.specs.States.{turn_at, unmoved, taken_by, sent_by, taken, sent, is_possible, IsLawful, IsFinished, zeros}
-use Rattle.net_ir.specs.CycleRun.{IsBetween, fires, fired_wholly, visit, met, cycle, cycles, stalled_cycles, EndsWith, EndsInTime}
+use Rattle.net_ir.specs.Waits.{progress}
+use Rattle.net_ir.specs.CycleRun.{IsBetween, fires, fired_wholly, visit, met, cycle, cycles, stalled_cycles, EndsWith, EndsInTime, LeastFires}
 use Rattle.net_ir.proofs.Distinct.{all_from_has}
 use Rattle.net_ir.proofs.Effects.{take_is, send_is}
 use Rattle.net_ir.proofs.Steps.{taken_between, sent_between, turn_at-zeros, IsLawful-zeros}
@@ -203,3 +204,16 @@ module _ (net : Net) (firings : ℕ) (network : IsNetwork net) where
         (λ e. omega (arith, within e, not_earlier stalls m h age e.0)),
         (λ same. (ends stalls (omega arith), λ k j end. let long : length (take k stalls) ≡ k = length-take-le k stalls (omega arith) in absurd (omega (arith, not_earlier (take k stalls) m h age end)))),
       )
+
+  pub least_progress : IsOrderly net → (stalled : List Bool) (state : List Turn) → IsLawful net firings state → IsBetween state → list_any (λ flag. flag) stalled ≡ false → LeastFires net firings stalled state
+  least_progress orderly stalled state lawful between free m h left least =
+      let level : ℕ = progress net state m in
+      let reached : Level level state = λ n k. ⊎_elim
+      (λ more. omega (arith, least n k more))
+      (λ done. omega (arith, done))
+      (cases_lt (turn_at state n).fired (firings_at net firings n)) in
+      omega (arith, met_reaches orderly stalled state level lawful between (none_stalled orderly stalled free) (omega arith) reached (length net.modules) (omega arith) m h, (met_raises stalled state lawful between (length net.modules) m (omega arith)).1, at_most (nat_lt m (length net.modules)))
+    where
+      at_most : (b : Bool) → cond b 1 0 ≤ 1
+      at_most true = omega arith
+      at_most false = omega arith

@@ -9,19 +9,10 @@ use Rattle.net_ir.specs.declared.events.Turn.{Turn}
 use Rattle.net_ir.specs.Nets.{Net, age_at, queue_at, exits, IsNetwork, IsOrderly}
 use Rattle.net_ir.specs.Firings.{takes, firings_at}
 use Rattle.net_ir.specs.States.{turn_at, taken, sent, next_event, is_possible, other_end, has_firing, can_step, waits_for, IsLawful}
-use Rattle.net_ir.specs.Waits.{follow, NoRing, GoesOn}
+use Rattle.net_ir.specs.Waits.{progress, Falls, follow, NoRing, GoesOn}
 use Rattle.net_ir.proofs.Distinct.{has-get_or}
 use Rattle.net_ir.proofs.Effects.{by_next, take_is, send_is}
 use Rattle.net_ir.proofs.Steps.{taken_next, sent_next, taken_least, sent_least}
-
--- a module's completed firings and its age
-abbrev pub progress : Net → List Turn → ℕ → ℕ
-progress net state m = (turn_at state m).fired + age_at net m
-
--- from one module to another the progress falls, or it doesn't rise and the place in the firing order falls
-abbrev pub Falls : Net → List Turn → ℕ → ℕ → Type 0
-Falls net state m n =
-    (progress net state n < progress net state m) ⊎ ((progress net state n ≤ progress net state m) × (n < m))
 
 -- a take that waits: the sender has completed few firings
 taking : (done sent age_to age_from lead capacity firings to from : ℕ) → sent ≤ done - lead → lead ≤ done → done < firings - age_to → from ≢ to → (from < to → (age_from ≤ age_to + lead) × (age_to + lead < age_from + capacity)) → (to < from → (age_from < age_to + lead) × (age_to + lead ≤ age_from + capacity)) → (((sent + age_from < done + age_to) ⊎ ((sent + age_from ≤ done + age_to) × (from < to))) × (sent < firings - age_from))
@@ -42,7 +33,7 @@ Some-same {a} {b} e = cc
 
 module _ (net : Net) (firings : ℕ) (network : IsNetwork net) (orderly : IsOrderly net) (state : List Turn) (lawful : IsLawful net firings state) where
   -- what is known of the module that another waits for
-  abbrev Waited : ℕ → ℕ → Type 0
+  abbrev pub Waited : ℕ → ℕ → Type 0
   Waited m n = (n < length net.modules) × Falls net state m n × ((turn_at state n).fired < firings_at net firings n)
 
   -- a wait falls, and ends at a module with a firing left
@@ -81,7 +72,7 @@ module _ (net : Net) (firings : ℕ) (network : IsNetwork net) (orderly : IsOrde
       at_ends P {f} {f'} {t} {t'} e k p = subst (P f') k (subst (λ y. P y t) e p)
 
   -- what a wait says
-  waits_is : (m n : ℕ) → waits_for net firings state m ≡ Some n → Waited m n
+  pub waits_is : (m n : ℕ) → waits_for net firings state m ≡ Some n → Waited m n
   unfolding waits_for
   waits_is m n e =
       let turn : Turn = turn_at state m in

@@ -3,7 +3,8 @@ use Rattle.std.specs.Prelude.{◌≡◌, ◌<◌, ◌≤◌, ◌+◌, ◌↔◌,
 use Rattle.std.specs.List.{list_any, list_all}
 use Rattle.net_ir.specs.declared.events.Turn.{Turn}
 use Rattle.net_ir.specs.Nets.{Net, age_at}
-use Rattle.net_ir.specs.Firings.{events}
+use Rattle.net_ir.specs.Firings.{events, firings_at}
+use Rattle.net_ir.specs.Waits.{progress}
 use Rattle.net_ir.specs.States.{turn_at, has_firing, is_possible, IsFinished, zeros}
 
 -- no module has events done in a running firing
@@ -74,3 +75,8 @@ pub record EndsInTime (net : Net) (firings : ℕ) (stalls : List (List Bool)) : 
   pub ends : firings + stalled_cycles stalls ≤ length stalls → IsFinished net firings (cycles net firings stalls (zeros net))
   pub within : EndsWith net firings stalls → length stalls ≤ firings + stalled_cycles stalls
   pub exact : (m : ℕ) → m < length net.modules → age_at net m ≡ 0 → stalled_cycles stalls ≡ 0 → EndsWith net firings stalls ↔ (length stalls ≡ firings)
+
+-- In a cycle without stalls each module of least progress among those with a firing left fires.
+abbrev pub LeastFires : Net → ℕ → List Bool → List Turn → Type 0
+LeastFires net firings stalled state =
+    (m : ℕ) → m < length net.modules → (turn_at state m).fired < firings_at net firings m → ((n : ℕ) → n < length net.modules → (turn_at state n).fired < firings_at net firings n → progress net state m ≤ progress net state n) → (turn_at (cycle net firings stalled state) m).fired ≡ (turn_at state m).fired + 1

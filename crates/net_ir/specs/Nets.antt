@@ -55,7 +55,8 @@ pub record IsNetwork (net : Net) : Type 0 where
   pub from : (n : ℕ) → n < length net.queues → (queue_at net.queues n).from < length net.modules
   pub to : (n : ℕ) → n < length net.queues → (queue_at net.queues n).to < length net.modules
   pub ends : (n : ℕ) → n < length net.queues → (queue_at net.queues n).from ≢ (queue_at net.queues n).to
-  pub ports : (i j : ℕ) → i < j → j < length net.queues → (queue_at net.queues i).to ≡ (queue_at net.queues j).to → (queue_at net.queues i).port ≢ (queue_at net.queues j).port
+  pub ports : (i j : ℕ) → i < j → j < length net.queues
+      → (queue_at net.queues i).to ≡ (queue_at net.queues j).to → (queue_at net.queues i).port ≢ (queue_at net.queues j).port
 
 -- the list of the queues that end at a module has each of them, in the rising order of their ports
 pub record StandByPort (net : Net) (m : ℕ) : Type 0 where
@@ -71,8 +72,12 @@ pub record StandInOrder (net : Net) (m : ℕ) : Type 0 where
 -- queue holds what is sent until the receiver's age and lead let it be taken; the end that waits for a later module
 -- has one firing to spare.
 pub record FitsOrder (net : Net) (queue : Queue) : Type 0 where
-  pub onward : queue.from < queue.to → (age_at net queue.from ≤ age_at net queue.to + queue.lead) × (age_at net queue.to + queue.lead < age_at net queue.from + queue.capacity)
-  pub back : queue.to < queue.from → (age_at net queue.from < age_at net queue.to + queue.lead) × (age_at net queue.to + queue.lead ≤ age_at net queue.from + queue.capacity)
+  pub onward : queue.from < queue.to
+      → (age_at net queue.from ≤ age_at net queue.to + queue.lead)
+      × (age_at net queue.to + queue.lead < age_at net queue.from + queue.capacity)
+  pub back : queue.to < queue.from
+      → (age_at net queue.from < age_at net queue.to + queue.lead)
+      × (age_at net queue.to + queue.lead ≤ age_at net queue.from + queue.capacity)
 
 -- each queue of the network fits the firing order
 abbrev pub IsOrderly : Net → Type 0

@@ -228,7 +228,9 @@ pub fn waits_for(net: &Network, counts: &Counts, module: u32) -> Option<u32>
     requires started { counts.now.network ≡ net.now }
     requires known { «module» < length net.now.modules }
     ensures value { result ≡ waits_for net.now counts.now.firings counts.now.state «module» }
-    ensures none { IsNone result ↔ ((has_firing net.now counts.now.firings counts.now.state «module» ≡ false) ⊎ (can_step net.now counts.now.firings counts.now.state «module» ≡ true)) }
+    ensures none { IsNone result
+        ↔ ((has_firing net.now counts.now.firings counts.now.state «module» ≡ false)
+        ⊎ (can_step net.now counts.now.firings counts.now.state «module» ≡ true)) }
     ensures no_ring { IsOrderly net.now → NoRing net.now counts.now.firings counts.now.state }
 {
     other_end(net, counts, module)

@@ -85,9 +85,13 @@ fn visit(net: &Network, counts: &mut Counts, module: u32, stalled: &[bool]) -> C
     requires flags { length stalled.now ≡ length net.now.modules }
     requires between { IsBetween counts.old.state }
     requires known { «module» < length net.now.modules }
-    ensures state { counts.new ≡ record counts.old { state = visit net.now counts.old.firings stalled.now counts.old.state «module» } }
-    ensures fired { result.fired ≡ (if fires net.now counts.old.firings stalled.now counts.old.state «module» then 1 else 0) }
-    ensures held { result.held ≡ (if has_firing net.now counts.old.firings counts.old.state «module» && not (fires net.now counts.old.firings stalled.now counts.old.state «module») then 1 else 0) }
+    ensures state { counts.new
+        ≡ record counts.old { state = visit net.now counts.old.firings stalled.now counts.old.state «module» } }
+    ensures fired { result.fired
+        ≡ (if fires net.now counts.old.firings stalled.now counts.old.state «module» then 1 else 0) }
+    ensures held { result.held
+        ≡ (if has_firing net.now counts.old.firings counts.old.state «module»
+        && not (fires net.now counts.old.firings stalled.now counts.old.state «module») then 1 else 0) }
 {
     let turn = counts.turn(module);
     let firings = firings_of(net, counts, module);
@@ -115,9 +119,12 @@ pub fn count_cycle(net: &Network, counts: &mut Counts, stalled: &[bool]) -> Cycl
     requires started { counts.old.network ≡ net.now }
     requires flags { length stalled.now ≡ length net.now.modules }
     requires between { IsBetween counts.old.state }
-    ensures state { counts.new ≡ record counts.old { state = cycle net.now counts.old.firings stalled.now counts.old.state } }
-    ensures fired { result.fired ≡ fired_among net.now counts.old.firings stalled.now counts.old.state (length net.now.modules) }
-    ensures held { result.held ≡ held_among net.now counts.old.firings stalled.now counts.old.state (length net.now.modules) }
+    ensures state { counts.new
+        ≡ record counts.old { state = cycle net.now counts.old.firings stalled.now counts.old.state } }
+    ensures fired { result.fired
+        ≡ fired_among net.now counts.old.firings stalled.now counts.old.state (length net.now.modules) }
+    ensures held { result.held
+        ≡ held_among net.now counts.old.firings stalled.now counts.old.state (length net.now.modules) }
     ensures still_between { IsBetween counts.new.state }
     ensures events { (ms : List ℕ) × Run net.now counts.old.firings counts.old.state ms counts.new.state }
 {

@@ -1,26 +1,38 @@
-ghost use Rattle.std.specs.Prelude.{◌≡◌, ℕ, Bool, List, length};
+ghost use Rattle.std.specs.Prelude.{◌≡◌, ℕ, Bool, false, List, length, Some};
+ghost use Rattle.std.specs.List.{list_any};
 ghost use Rattle.net_ir.specs.declared.events.Turn.{Turn};
 ghost use Rattle.net_ir.specs.Nets.{Net, IsNetwork, IsOrderly, StandByPort, StandInOrder};
-ghost use Rattle.net_ir.specs.States.{zeros, Run, IsLawful};
-ghost use Rattle.net_ir.specs.Waits.{NoRing, GoesOn};
-ghost use Rattle.net_ir.specs.CycleRun.{EndsInTime, VisitsEachOnce};
+ghost use Rattle.net_ir.specs.States.{zeros, waits_for, Run, IsLawful};
+ghost use Rattle.net_ir.specs.Waits.{Falls, NoRing, GoesOn};
+ghost use Rattle.net_ir.specs.CycleRun.{IsBetween, EndsInTime, LeastFires, VisitsEachOnce};
 ghost use Rattle.net_ir.specs.Worked.{two_reads};
 
 /// Each state of each run of events is lawful.
 pub fn runs_are_lawful()
-    ensures { (net : Net) (firings : ℕ) (ms : List ℕ) (end : List Turn) → Run net firings (zeros net) ms end → IsLawful net firings end }
+    ensures { (net : Net) (firings : ℕ) (ms : List ℕ) (end : List Turn)
+        → Run net firings (zeros net) ms end → IsLawful net firings end }
 {}
 
-/// In a network whose queues fit the firing order no module ever waits on itself, and a state that isn't finished has
-/// a module that can do its next event.
+/// In a network whose queues fit the firing order progress or place falls along each wait. So no module ever waits on
+/// itself, and a state that isn't finished has a module that can do its next event.
 pub fn no_ring_of_waits()
-    ensures no_ring { (net : Net) (firings : ℕ) (state : List Turn) → IsNetwork net → IsOrderly net → IsLawful net firings state → NoRing net firings state }
-    ensures goes_on { (net : Net) (firings : ℕ) (state : List Turn) → IsNetwork net → IsOrderly net → IsLawful net firings state → GoesOn net firings state }
+    ensures falls { (net : Net) (firings : ℕ) (state : List Turn)
+        → IsNetwork net → IsOrderly net → IsLawful net firings state
+        → (m n : ℕ) → waits_for net firings state m ≡ Some n → Falls net state m n }
+    ensures no_ring { (net : Net) (firings : ℕ) (state : List Turn)
+        → IsNetwork net → IsOrderly net → IsLawful net firings state → NoRing net firings state }
+    ensures goes_on { (net : Net) (firings : ℕ) (state : List Turn)
+        → IsNetwork net → IsOrderly net → IsLawful net firings state → GoesOn net firings state }
 {}
 
-/// In a network whose queues fit the firing order a run of cycles ends in time.
+/// In a network whose queues fit the firing order the modules of least progress fire in a cycle without stalls. So a run
+/// of cycles ends in time.
 pub fn cycles_end_in_time()
-    ensures { (net : Net) (firings : ℕ) (stalls : List (List Bool)) → IsNetwork net → IsOrderly net → EndsInTime net firings stalls }
+    ensures least { (net : Net) (firings : ℕ) (stalled : List Bool) (state : List Turn)
+        → IsNetwork net → IsOrderly net → IsLawful net firings state → IsBetween state
+        → list_any (λ flag. flag) stalled ≡ false → LeastFires net firings stalled state }
+    ensures ends { (net : Net) (firings : ℕ) (stalls : List (List Bool))
+        → IsNetwork net → IsOrderly net → EndsInTime net firings stalls }
 {}
 
 /// The queues of the example network fit the firing order where its reuse queue has the capacity 4, and don't where it
@@ -39,5 +51,6 @@ pub fn queues_stand_in_order()
 
 /// A cycle visits each module once, in firing order.
 pub fn cycles_visit_each_once()
-    ensures { (net : Net) (firings : ℕ) (stalled : List Bool) (state : List Turn) → length state ≡ length net.modules → VisitsEachOnce net firings stalled state }
+    ensures { (net : Net) (firings : ℕ) (stalled : List Bool) (state : List Turn)
+        → length state ≡ length net.modules → VisitsEachOnce net firings stalled state }
 {}
