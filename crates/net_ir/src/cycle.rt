@@ -79,8 +79,10 @@ fn fires(net: &Network, counts: &Counts, module: u32, stalled: &[bool]) -> bool
     all_possible(net, counts, module, turn.fired)
 }
 
-/// Visits a module: it fires wholly or not at all.
-fn visit(net: &Network, counts: &mut Counts, module: u32, stalled: &[bool]) -> CycleCount
+/// Visits one module in a cycle: it fires wholly where it isn't stalled, has a firing left and each event of the firing
+/// is possible, and else keeps its numbers. There is a flag for each module, and no module is in the midst of a firing.
+/// The answer has a 1 where the module fired, or where it had a firing left and was held.
+pub fn visit(net: &Network, counts: &mut Counts, module: u32, stalled: &[bool]) -> CycleCount
     requires started { counts.old.network ≡ net.now }
     requires flags { length stalled.now ≡ length net.now.modules }
     requires between { IsBetween counts.old.state }
@@ -92,6 +94,7 @@ fn visit(net: &Network, counts: &mut Counts, module: u32, stalled: &[bool]) -> C
     ensures held { result.held
         ≡ (if has_firing net.now counts.old.firings counts.old.state «module»
         && not (fires net.now counts.old.firings stalled.now counts.old.state «module») then 1 else 0) }
+    ensures still_between { IsBetween counts.new.state }
 {
     let turn = counts.turn(module);
     let firings = firings_of(net, counts, module);

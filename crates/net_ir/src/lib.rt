@@ -11,7 +11,7 @@ mod network;
 mod tests;
 
 pub use counts::{Counts, can_step, finished, step, waits_for};
-pub use cycle::{CycleCount, count_cycle};
+pub use cycle::{CycleCount, count_cycle, visit};
 pub use events::{Event, Turn};
 pub use laws::{
     capacity_decides, cycles_end_in_time, cycles_visit_each_once, no_ring_of_waits,

@@ -112,8 +112,8 @@ impl Network {
         &self.queues
     }
 
-    /// The numbers of the queues to a module, by port.
-    pub(crate) fn entrances(&self, module: u32) -> &[u32]
+    /// The numbers of the queues to a module, in the order of their ports.
+    pub fn entrances(&self, module: u32) -> &[u32]
         requires { «module» < length self.now.modules }
         ensures value { result.now ≡ entrances self.now «module» }
         ensures known { All (λ n. n < length self.now.queues) (entrances self.now «module») }
@@ -125,7 +125,7 @@ impl Network {
     }
 
     /// The numbers of the queues from a module, in queue order.
-    pub(crate) fn exits(&self, module: u32) -> &[u32]
+    pub fn exits(&self, module: u32) -> &[u32]
         requires { «module» < length self.now.modules }
         ensures value { result.now ≡ exits self.now «module» }
         ensures known { All (λ n. n < length self.now.queues) (exits self.now «module») }

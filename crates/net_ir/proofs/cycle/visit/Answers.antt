@@ -1,9 +1,9 @@
 use Rattle.std.proofs.Common.{◌∙◌, sym, ap, subst, set, arith}
 use Rattle.net_ir.specs.declared.events.Turn.{Turn}
 use Rattle.net_ir.specs.States.{Machine, IsLawful}
-use Rattle.net_ir.specs.CycleRun.{fired_wholly}
+use Rattle.net_ir.specs.CycleRun.{IsBetween, fired_wholly}
 use Rattle.net_ir.proofs.Facts.{lawful_on}
-use Rattle.net_ir.proofs.CycleSteps.{fires_parts, fired_lawful, visit_fired, visit_kept}
+use Rattle.net_ir.proofs.CycleSteps.{IsBetween-visit, fires_parts, fired_lawful, visit_fired, visit_kept}
 use Rattle.net_ir.proofs.cycle.visit.Goals as goal
 
 pub overflow_add-turn : goal.overflow_add-turn
@@ -39,3 +39,12 @@ returns-else-turn-firings-clause-state c =
     let old : Machine = c.args.counts.now in
     ap (λ s. record { network = old.network; firings = old.firings; state = s })
     (visit_kept c.args.net.now old.firings c.firings_of-firings.ensures.network c.args.stalled.now old.state c.args.module (sym c.if-fires.ensures))
+
+pub returns-then-fires-clause-still_between : goal.returns-then-fires-clause-still_between
+returns-then-fires-clause-still_between c =
+    let net = c.args.net.now in
+    let old : Machine = c.args.counts.now in
+    let m = c.args.module in
+    let lawful = lawful_on old.network net old.firings old.state c.requires.started c.turn-turn.ensures.lawful in
+    subst (λ (x : Machine). IsBetween x.state) (sym (returns-then-fires-clause-state c))
+    (IsBetween-visit net old.firings c.firings_of-firings.ensures.network c.args.stalled.now old.state m (omega (arith, lawful.whole, c.requires.known)) c.requires.between)
