@@ -1,0 +1,13 @@
+pub mod Distinct
+pub mod Ends
+pub mod Effects
+pub mod Steps
+pub mod Rings
+pub mod CycleSteps
+pub mod Bounds
+pub mod Listing
+pub mod Scans
+pub mod Facts
+pub mod TwoReads
+pub mod ByPort
+pub mod Visits

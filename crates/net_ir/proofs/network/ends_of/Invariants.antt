@@ -1,0 +1,5 @@
+use Rattle.net_ir.specs.Table.{IsListed}
+use Rattle.net_ir.proofs.network.ends_of.Given as goal
+
+abbrev pub invariant-loop-number : goal.invariant-loop-number
+invariant-loop-number l = IsListed l.queues l.modules l.number l.ends.items

@@ -1,0 +1,7 @@
+pub mod Nets
+pub mod Firings
+pub mod States
+pub mod Waits
+pub mod CycleRun
+pub mod Table
+pub mod Worked
