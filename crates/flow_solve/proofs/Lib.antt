@@ -1,0 +1,5 @@
+pub mod WalkLemmas
+pub mod RoundLemmas
+pub mod PartLemmas
+pub mod TraceLemmas
+pub mod SearchLemmas
