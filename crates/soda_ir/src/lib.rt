@@ -8,6 +8,8 @@ mod names;
 mod plain;
 mod program;
 mod spot;
+#[cfg(test)]
+mod tests;
 mod value;
 
 pub use expr::{Expr, Offset};
