@@ -19,5 +19,6 @@ pub use names::{
 };
 pub use plain::{plain_cell, plain_run};
 pub use program::{Border, Param, Parts, Program, Role, Tensor};
+/// Want of memory.
 pub use std::alloc::AllocError as NoMemory;
 pub use value::{Cells, eval};
