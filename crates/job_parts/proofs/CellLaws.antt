@@ -1,5 +1,5 @@
 -- Cells are read as what their text is, and their text is what was read.
-use Rattle.std.proofs.Common.{◌≡◌, ℕ, zero, suc, ◌+◌, ◌-◌, ◌%◌, ◌<◌, ◌≤◌, ◌^◌, ◌==◌, nat_le, Bool, true, false, List, [], ◌∷◌, ◌++◌, length, Option, Some, None, IfSome, IfNone, All, ℤ, pos, negsuc, ◌<ℤ◌, ◌≤ℤ◌, refl, sym, ◌∙◌, ap, subst, arith, rules, append_assoc, if◌then◌else◌}
+use Rattle.std.proofs.Common.{◌≡◌, ℕ, zero, suc, ◌+◌, ◌-◌, ◌<◌, ◌≤◌, ◌^◌, ◌==◌, nat_le, true, false, List, [], ◌∷◌, ◌++◌, length, Option, Some, None, IfSome, IfNone, All, ℤ, pos, negsuc, refl, sym, ◌∙◌, ap, subst, arith, append_assoc, if◌then◌else◌}
 use Rattle.std.specs.Fmt.{decimal, signed_decimal}
 use Rattle.std.proofs.Math.Nat.{mod-one}
 use Rattle.std.proofs.lemmas.Bool.{eqb-true}
@@ -9,11 +9,10 @@ use Rattle.std.proofs.lemmas.List.Elements.{All-cons, All-head, All-nil, All-tai
 use borrow.Author.Tests.{leb-true, le-leb}
 use Rattle.int_types.specs.IntType.{InRange}
 use Rattle.soda_ir.specs.Names.{behind}
-use Rattle.soda_ir.specs.Program.{IsArray}
 use Rattle.soda_ir.specs.Sums.{uint8}
-use Rattle.job_parts.specs.Cells.{AreCells, all_cells_at, array_text, cell_line_at, cell_lines_at, parting, text_from}
+use Rattle.job_parts.specs.Cells.{AreCells, all_cells_at, cell_line_at, cell_lines_at, parting, text_from}
 use Rattle.job_parts.specs.Scan.{◌>>=◌, number_at}
-use Rattle.job_parts.proofs.Spelled.{behind_again, behind_takes, bind_is, bind_ok, if_some, number_again, number_takes}
+use Rattle.job_parts.proofs.Spelled.{behind_takes, bind_is, bind_ok, if_some, number_again, number_takes}
 use Rattle.job_parts.proofs.SumLaws.{if_takes, some_inj}
 
 -- with one cell a line a line feed stands behind each

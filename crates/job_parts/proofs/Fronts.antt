@@ -1,8 +1,7 @@
 -- Loops over the front of a list of bytes.
-use Rattle.std.proofs.Common.{◌≡◌, ℕ, zero, suc, ◌+◌, ◌-◌, ◌*◌, ◌<◌, ◌≤◌, ◌^◌, Bool, true, false, ◌&&◌, List, [], ◌∷◌, ◌++◌, length, take, drop, get_or, refl, sym, ◌∙◌, ap, subst, arith, append_assoc, add-one, drop-cons, if◌then◌else◌}
+use Rattle.std.proofs.Common.{◌≡◌, ℕ, suc, ◌+◌, ◌-◌, ◌*◌, ◌<◌, ◌≤◌, ◌^◌, true, List, [], ◌∷◌, ◌++◌, length, take, drop, get_or, ap, arith, drop-cons}
 use Rattle.std.specs.List.{list_all}
-use Rattle.std.proofs.Math.Seq.{take-suc}
-use Rattle.soda_ir.specs.Names.{is_digit, is_word_byte}
+use Rattle.soda_ir.specs.Names.{is_digit}
 use Rattle.job_parts.specs.Scan.{front_of, rest_of, value_behind}
 
 -- the first bytes are word bytes

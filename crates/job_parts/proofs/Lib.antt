@@ -6,3 +6,4 @@ pub mod TextLaws
 pub mod CellLaws
 pub mod Numbered
 pub mod Summed
+mod Examples

@@ -1,5 +1,5 @@
 -- A program text is read as what it is spelled from, and is spelled as it is read.
-use Rattle.std.proofs.Common.{◌≡◌, ◌≢◌, ℕ, zero, suc, ◌+◌, ◌<◌, ◌≤◌, ◌^◌, ◌-◌, ◌==◌, ◌&&◌, Bool, true, false, nat_le, List, [], ◌∷◌, ◌++◌, length, Option, Some, None, All, refl, sym, ◌∙◌, ap, subst, arith, append_assoc, if◌then◌else◌, codes}
+use Rattle.std.proofs.Common.{◌≡◌, ℕ, zero, suc, ◌+◌, ◌<◌, ◌≤◌, ◌^◌, ◌-◌, ◌==◌, Bool, true, false, nat_le, List, [], ◌∷◌, ◌++◌, length, Option, Some, None, All, refl, sym, ◌∙◌, ap, subst, arith, append_assoc, if◌then◌else◌, codes}
 use Rattle.std.specs.Fmt.{decimal}
 use Rattle.std.specs.List.{list_all}
 use Rattle.std.proofs.lemmas.Bool.{eqb-true}
@@ -7,12 +7,12 @@ use Rattle.std.proofs.lemmas.Fmt.{decimal_nonempty, digits_decimal}
 use Rattle.std.proofs.lemmas.List.Elements.{All-cons, All-head, All-nil, All-tail}
 use Rattle.std.proofs.lemmas.List.{append-nil}
 use borrow.Author.Tests.{leb-true, le-leb}
-use Rattle.soda_ir.specs.Names.{behind, is_digit, is_name, is_word_byte}
+use Rattle.soda_ir.specs.Names.{behind, is_digit, is_name}
 use Rattle.job_parts.specs.declared.term.Reach.{Reach}
 use Rattle.job_parts.specs.declared.term.Term.{Term}
 use Rattle.job_parts.specs.Scan.{◌>>=◌, name_at, number_at}
-use Rattle.job_parts.specs.SumText.{SumText, IsShort, cell_text, lead, one_more, plus_or_minus, signed_at, name_behind, number_behind, reach_at, sign_at, term_at, terms_at, terms_text}
-use Rattle.job_parts.proofs.Spelled.{Stops, behind_again, behind_takes, bind_is, bind_ok, first, if_some, own, name_again, name_takes, number_again, number_takes}
+use Rattle.job_parts.specs.SumText.{IsShort, cell_text, lead, one_more, plus_or_minus, signed_at, name_behind, number_behind, reach_at, sign_at, term_at, terms_at, terms_text}
+use Rattle.job_parts.proofs.Spelled.{Stops, behind_again, behind_takes, bind_is, bind_ok, first, own, name_again, name_takes, number_again, number_takes}
 
 pub name_behind_takes : (p bs : List ℕ) (x : List ℕ × List ℕ) → name_behind p bs ≡ Some x → (bs ≡ p ++ (x.0 ++ x.1)) × (is_name x.0 ≡ true)
 name_behind_takes p bs x e =

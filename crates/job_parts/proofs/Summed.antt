@@ -1,17 +1,16 @@
 -- Sums that are made of the terms that were read.
-use Rattle.std.proofs.Common.{◌≡◌, ℕ, zero, suc, ◌+◌, ◌<◌, ◌≤◌, Bool, true, false, List, [], ◌∷◌, length, drop, get_or, All, ℤ, pos, neg_ℤ, unsigned_abs, Some, refl, sym, ◌∙◌, ap, subst, arith, drop-cons, if◌then◌else◌}
+use Rattle.std.proofs.Common.{◌≡◌, ℕ, zero, suc, ◌+◌, ◌<◌, ◌≤◌, Bool, true, false, List, [], ◌∷◌, length, drop, get_or, All, pos, neg_ℤ, Some, refl, sym, ◌∙◌, ap, arith, drop-cons, if◌then◌else◌}
 use Rattle.std.proofs.lemmas.List.Elements.{All-head, All-tail}
 use Rattle.int_types.specs.declared.operators.BinOp.{BinOp}
-use Rattle.int_types.specs.declared.operators.BinOp.TheVariants.{Add, Sub}
 use Rattle.soda_ir.specs.declared.expr.Expr.{Expr, Bin}
-use Rattle.soda_ir.specs.Formula.{Formula, binary, read}
+use Rattle.soda_ir.specs.Formula.{Formula, binary}
 use Rattle.soda_ir.specs.Program.{PlainProgram}
 use Rattle.soda_ir.specs.Sums.{IsCell, IsNear, IsSum, cell_count}
 use Rattle.soda_ir.specs.Tree.{formula_of}
 use Rattle.soda_ir.proofs.Tree.{formula_of-Bin}
 use Rattle.job_parts.specs.declared.term.Reach.{Reach}
 use Rattle.job_parts.specs.declared.term.Term.{Term}
-use Rattle.job_parts.specs.SumText.{Accepts, IsShort, SumText, cell_formula, offset_of, operator, program_of, sum_at, summed}
+use Rattle.job_parts.specs.SumText.{Accepts, IsShort, SumText, cell_formula, operator, sum_at, summed}
 use Rattle.job_parts.proofs.TextLaws.{accepted_read}
 
 near : (b : Bool) (n : ℕ) → n ≤ 32768 → IsNear ((if b then neg_ℤ (pos n) else pos n) ∷ [])

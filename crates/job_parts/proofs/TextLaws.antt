@@ -1,16 +1,15 @@
 -- A whole program text is read as what it is spelled from, and is spelled as it is read.
-use Rattle.std.proofs.Common.{◌≡◌, ◌≢◌, ℕ, zero, suc, ◌+◌, ◌<◌, ◌≤◌, ◌^◌, ◌==◌, Bool, true, false, not, List, [], ◌∷◌, ◌++◌, length, Option, Some, None, All, refl, sym, ◌∙◌, ap, subst, arith, append_assoc, if◌then◌else◌, codes}
+use Rattle.std.proofs.Common.{◌≡◌, ℕ, ◌<◌, ◌≤◌, ◌^◌, ◌==◌, Bool, true, false, not, List, [], ◌∷◌, ◌++◌, length, Some, None, All, refl, ◌∙◌, ap, subst, arith, if◌then◌else◌, codes}
 use Rattle.std.specs.Fmt.{decimal}
 use Rattle.std.proofs.lemmas.Bool.{eqb-true}
-use Rattle.std.proofs.lemmas.List.{append-nil}
 use Rattle.soda_ir.specs.Names.{behind, is_free_name, is_name, is_reserved}
 use Rattle.soda_ir.specs.Program.{PlainProgram}
 use Rattle.job_parts.specs.declared.term.Reach.{Reach}
 use Rattle.job_parts.specs.declared.term.Term.{Term}
 use Rattle.job_parts.specs.Scan.{◌>>=◌}
-use Rattle.job_parts.specs.SumText.{Accepts, AreLines, IsShort, IsSumText, Lines, SumText, cell_text, ends, lines_at, lines_text, name_behind, number_behind, program_of, reach_at, start_at, sum_at, sum_text, terms_at, terms_text}
+use Rattle.job_parts.specs.SumText.{Accepts, IsShort, IsSumText, Lines, SumText, cell_text, ends, lines_at, lines_text, name_behind, number_behind, reach_at, start_at, sum_at, sum_text, terms_at, terms_text}
 use Rattle.job_parts.proofs.Spelled.{behind_again, behind_takes, bind_is, bind_ok, first, if_some}
-use Rattle.job_parts.proofs.SumLaws.{AreTerms, name_behind_again, name_behind_takes, number_behind_again, number_behind_takes, reach_again, reach_takes, some_inj, terms_again, terms_takes}
+use Rattle.job_parts.proofs.SumLaws.{name_behind_again, name_behind_takes, number_behind_again, number_behind_takes, reach_again, reach_takes, some_inj, terms_again, terms_takes}
 
 -- the names that were read are names
 pub record AreNamed (l : Lines) : Type 0 where

@@ -7,6 +7,8 @@ mod program;
 mod scan;
 mod sum_text;
 mod term;
+#[cfg(test)]
+mod tests;
 mod words;
 
 pub use cells::{array_text, read_cells};

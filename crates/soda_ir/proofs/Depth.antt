@@ -1,5 +1,5 @@
 -- A deeper look changes nothing.
-use Rattle.std.proofs.Common.{◌≡◌, ℕ, zero, suc, ◌<◌, ◌≤◌, Bool, true, ◌&&◌, List, Option, Some, None, ℤ, pos, refl, sym, ◌∙◌, ap, nat_lt, arith, if◌then◌else◌}
+use Rattle.std.proofs.Common.{◌≡◌, ℕ, zero, suc, ◌<◌, Bool, true, ◌&&◌, List, Option, Some, None, ℤ, refl, sym, ◌∙◌, ap, nat_lt, arith, if◌then◌else◌}
 use borrow.Author.Tests.{ltb-true}
 use Rattle.int_types.specs.IntType.{wrapped}
 use Rattle.soda_ir.specs.Formula.{Formula, valued}

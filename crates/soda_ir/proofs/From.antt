@@ -1,10 +1,10 @@
 -- A cell from the cells that it reads, wherever these are kept.
-use Rattle.std.proofs.Common.{◌≡◌, ℕ, ◌<◌, Bool, true, false, ◌&&◌, List, [], ◌∷◌, Option, Some, None, ℤ, pos, unsigned_abs, refl, sym, ◌∙◌, ap, if◌then◌else◌, slice_index_or, rules, arith}
+use Rattle.std.proofs.Common.{◌≡◌, ℕ, ◌<◌, Bool, true, false, ◌&&◌, List, Some, ℤ, pos, unsigned_abs, refl, sym, ◌∙◌, ap, if◌then◌else◌, slice_index_or}
 use Rattle.int_types.specs.IntType.{wrapped}
 use Rattle.soda_ir.specs.Formula.{Formula, Values, valued}
 use Rattle.soda_ir.specs.Points.{size, in_box, point, linear, moved}
 use Rattle.soda_ir.specs.Arrays.{every, Stencil, Given, by_formula, formula_at, type_at, outside_cell, IsMeaning, array_cell}
-use Rattle.soda_ir.proofs.Touched.{every_same, valued_same}
+use Rattle.soda_ir.proofs.Touched.{valued_same}
 use Rattle.soda_ir.proofs.Numbers.{number_back}
 
 first : (a b : Bool) → (a && b) ≡ true → a ≡ true

@@ -6,3 +6,4 @@ pub mod Depth
 pub mod Numbers
 pub mod From
 pub mod Sum
+mod Examples

@@ -1,5 +1,5 @@
 -- The equations of regions and cells.
-use Rattle.std.proofs.Common.{◌≡◌, ℕ, suc, Bool, ◌&&◌, List, ℤ, pos, refl, if◌then◌else◌}
+use Rattle.std.proofs.Common.{◌≡◌, ℕ, suc, ◌&&◌, List, ℤ, refl, if◌then◌else◌}
 use Rattle.int_types.specs.IntType.{wrapped}
 use Rattle.soda_ir.specs.Formula.{valued}
 use Rattle.soda_ir.specs.Points.{in_box, moved}

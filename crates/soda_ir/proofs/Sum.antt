@@ -1,20 +1,17 @@
 -- The cells of a sum over one input.
-use Rattle.std.proofs.Common.{◌≡◌, ℕ, ◌*◌, ◌<◌, ◌≤◌, ◌^◌, Bool, true, false, ◌&&◌, List, [], ◌∷◌, Option, Some, None, ℤ, pos, unsigned_abs, length, map, option_map, refl, sym, ◌∙◌, ap, subst, nat_eq, nat_lt, rules, arith, All, eq-eqb, zero, suc, get_or, slice_get, slice_index_or, if◌then◌else◌, IsSome, ◌≢◌}
+use Rattle.std.proofs.Common.{◌≡◌, ℕ, ◌*◌, ◌<◌, Bool, true, false, ◌&&◌, List, [], ◌∷◌, Some, None, ℤ, pos, unsigned_abs, length, map, option_map, refl, sym, ◌∙◌, ap, subst, nat_eq, arith, All, eq-eqb, zero, suc, slice_get, slice_index_or, if◌then◌else◌, ◌≢◌}
 use Rattle.std.proofs.lemmas.Bool.{eqb-true}
-use Rattle.std.proofs.lemmas.List.{length-map}
 use Rattle.std.proofs.lemmas.List.Elements.{All-head, All-tail}
-use Rattle.std.proofs.lemmas.Int.{ints}
 use Rattle.int_types.specs.IntType.{IntType, wrapped, InRange}
 use Rattle.int_types.specs.Operators.{int32}
 use Rattle.int_types.specs.declared.operators.BinOp.TheVariants.{Add, Sub}
 use Rattle.int_types.proofs.Wrapped.{zero_in_range}
-use Rattle.soda_ir.specs.declared.program.Parts.{Parts}
 use Rattle.soda_ir.specs.declared.program.Tensor.{Tensor}
-use Rattle.soda_ir.specs.Arrays.{every, Each, Stencil, Given, in_region, cell, whole, array_cell, by_formula, formula_at, type_at}
-use Rattle.soda_ir.specs.Formula.{Formula, number, read, param, unary, binary, choice, cast, Scope, Values, typed, valued, IsReadable}
-use Rattle.soda_ir.specs.Points.{in_box, moved, point, linear, size, listed}
-use Rattle.soda_ir.specs.Program.{PlainTensor, PlainProgram, plain, plain_tensor, HasArrays, IsArray, HasValues, cells_at, defined_arrays, extents_at, input_types, place_types, scope_of, stencil_of}
-use Rattle.soda_ir.specs.Sums.{IsSum, IsCell, IsSumProgram, sum_program, uint8, input_of, output_of}
+use Rattle.soda_ir.specs.Arrays.{every, Each, Stencil, Given, in_region, cell, whole, array_cell, by_formula, formula_at}
+use Rattle.soda_ir.specs.Formula.{Formula, read, binary, Scope, valued, IsReadable}
+use Rattle.soda_ir.specs.Points.{in_box, moved, point, linear, listed}
+use Rattle.soda_ir.specs.Program.{PlainProgram, plain_tensor, HasArrays, IsArray, cells_at, defined_arrays, extents_at, input_types, scope_of, stencil_of}
+use Rattle.soda_ir.specs.Sums.{IsSum, IsCell, IsSumProgram, sum_program, uint8}
 use Rattle.soda_ir.specs.Tree.{formula_of}
 use Rattle.soda_ir.proofs.Numbers.{point_there}
 use Rattle.soda_ir.proofs.Steps.{region_step, cell_step}

@@ -1,12 +1,12 @@
 -- One level of a tree.
-use Rattle.std.proofs.Common.{◌≡◌, ℕ, List, ℤ, refl}
+use Rattle.std.proofs.Common.{◌≡◌, ℕ, ℤ, refl}
 use Rattle.int_types.specs.IntType.{IntType}
 use Rattle.int_types.specs.declared.operators.UnOp.{UnOp}
 use Rattle.int_types.specs.declared.operators.BinOp.{BinOp}
 use Rattle.arrayvec.specs.ArrayVec.{ArrayVec}
 use Rattle.soda_ir.specs.declared.expr.Expr.{Expr, Num, Cell, Un, Bin, Select, Cast, the_lemmas}
 use Rattle.soda_ir.specs.declared.expr.Expr.TheBlock.{hidden-the_row-Expr-0}
-use Rattle.soda_ir.specs.Formula.{Formula, number, read, unary, binary, choice, cast}
+use Rattle.soda_ir.specs.Formula.{number, read, unary, binary, choice, cast}
 use Rattle.soda_ir.specs.Tree.{formula_of, part_of}
 use denote.Hole.Carrier.{hidden}
 

@@ -1,5 +1,5 @@
 -- The value of one level of a tree, from the values of its parts.
-use Rattle.std.proofs.Common.{◌≡◌, ℕ, List, ℤ, ◌<◌, length, refl, sym, ◌∙◌, ap, subst}
+use Rattle.std.proofs.Common.{◌≡◌, ℕ, List, ℤ, ◌<◌, length, sym, ◌∙◌, ap, subst}
 use Rattle.arrayvec.specs.ArrayVec.{ArrayVec}
 use Rattle.int_types.specs.IntType.{IntType, wrapped}
 use Rattle.int_types.specs.declared.operators.UnOp.{UnOp}

@@ -1,9 +1,9 @@
 -- The arrays that a program defines, point by point.
-use Rattle.std.specs.Prelude.{◌≡◌, ◌<◌, nat_lt, ℕ, zero, suc, Bool, true, false, ◌&&◌, List, [], ◌∷◌, Option, Some, None, ℤ, pos, unsigned_abs, if◌then◌else◌, slice_index_or, length}
+use Rattle.std.specs.Prelude.{◌≡◌, nat_lt, ℕ, zero, suc, Bool, true, false, ◌&&◌, List, [], Option, Some, None, ℤ, pos, unsigned_abs, if◌then◌else◌, slice_index_or, length}
 use Rattle.int_types.specs.IntType.{IntType, wrapped}
 use Rattle.int_types.specs.Operators.{int32}
-use Rattle.soda_ir.specs.Formula.{Formula, number, read, param, unary, binary, choice, cast, Scope, Values, valued}
-use Rattle.soda_ir.specs.Points.{linear, in_box, moved, size}
+use Rattle.soda_ir.specs.Formula.{Formula, number, read, param, unary, binary, choice, cast, Scope, valued}
+use Rattle.soda_ir.specs.Points.{linear, in_box, moved}
 
 -- a test of each read of a formula
 abbrev pub every : (ℕ → List ℤ → Bool) → Formula → Bool

@@ -5,3 +5,4 @@ pub mod Arrays
 pub mod Program
 pub mod Names
 pub mod Sums
+pub mod Examples

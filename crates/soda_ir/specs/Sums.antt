@@ -1,7 +1,6 @@
 -- The programs that are built so far: a sum of cells of one input, in one dimension.
-use Rattle.std.specs.Prelude.{◌≡◌, ◌≢◌, ◌⊎◌, ℕ, ◌+◌, ◌%◌, ◌≤◌, Bool, true, false, List, [], ◌∷◌, Some, None, ℤ, unsigned_abs}
+use Rattle.std.specs.Prelude.{◌≡◌, ◌≢◌, ℕ, ◌+◌, ◌%◌, ◌≤◌, true, false, List, [], ◌∷◌, Some, None, ℤ, unsigned_abs}
 use Rattle.int_types.specs.IntType.{IntType}
-use Rattle.int_types.specs.declared.operators.BinOp.{BinOp}
 use Rattle.int_types.specs.declared.operators.BinOp.TheVariants.{Add, Sub}
 use Rattle.soda_ir.specs.declared.program.Border.TheVariants.{Ignore}
 use Rattle.soda_ir.specs.declared.program.Role.TheVariants.{Input, Output}

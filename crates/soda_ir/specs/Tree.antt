@@ -1,5 +1,4 @@
 -- The formula that a tree holds.
-use Rattle.std.specs.Prelude.{◌≡◌, ℕ}
 use Rattle.soda_ir.specs.Formula.{Formula, number, read, unary, binary, choice, cast}
 use Rattle.soda_ir.specs.declared.expr.Expr.{Expr, Row_of-Expr, end_of-Expr, more_of-Expr}
 use Rattle.soda_ir.specs.declared.expr.Expr.TheVariants.{Num, Cell, Un', Bin', Select', Cast'}

@@ -12,7 +12,12 @@ pub enum Expr {
     Num(u64),
     /// The cell of a tensor at an offset from the cell that the formula gives. Tensors are numbered with the inputs
     /// first, and then the locals and outputs in text order.
-    Cell { tensor: u32, offset: Offset },
+    Cell {
+        /// The tensor's number.
+        tensor: u32,
+        /// The offset, with a component for each dimension.
+        offset: Offset,
+    },
     /// An operator of one operand.
     Un(UnOp, Boxed<Expr>),
     /// An operator of two operands.

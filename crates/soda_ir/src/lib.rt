@@ -8,6 +8,8 @@ mod names;
 mod plain;
 mod program;
 mod spot;
+#[cfg(test)]
+mod tests;
 mod value;
 
 pub use expr::{Expr, Offset};
@@ -17,5 +19,6 @@ pub use names::{
 };
 pub use plain::{plain_cell, plain_run};
 pub use program::{Border, Param, Parts, Program, Role, Tensor};
+/// Want of memory.
 pub use std::alloc::AllocError as NoMemory;
 pub use value::{Cells, eval};

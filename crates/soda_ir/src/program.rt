@@ -12,8 +12,11 @@ use std::marker::Model;
 /// A table of values that formulas read. Its place counts with the last index changing fastest.
 #[derive(Drop)]
 pub struct Param {
+    /// The name's bytes.
     pub name: Items<u8>,
+    /// The type of each value.
     pub ty: Ty,
+    /// How many values there are along each index, in order; a param with no size is one value.
     pub sizes: Items<u64>,
 }
 
@@ -40,15 +43,20 @@ pub enum Border {
 /// An array of cells, with its formula where it is no input.
 #[derive(Drop)]
 pub struct Tensor {
+    /// The name's bytes.
     pub name: Items<u8>,
+    /// The type of each cell.
     pub ty: Ty,
+    /// What it is for.
     pub role: Role,
+    /// What its cells are in its region, and None for an input.
     pub formula: Option<Expr>,
 }
 
 /// What a program is made of.
 #[derive(Drop)]
 pub struct Parts {
+    /// The program's name, as bytes.
     pub kernel: Items<u8>,
     /// The width of a burst, in bits.
     pub burst: u64,
@@ -56,7 +64,9 @@ pub struct Parts {
     pub unroll: u64,
     /// How often the computation runs.
     pub iterate: u64,
+    /// What the outputs' cells are outside their regions.
     pub border: Border,
+    /// The params, in text order.
     pub params: Items<Param>,
     /// The fixed extents, in cells: all but the last.
     pub extents: Items<u64>,

@@ -1,5 +1,4 @@
-use Rattle.std.proofs.Common.{◌≡◌, ◌++◌, drop, string_bytes}
-use Rattle.job_parts.specs.Cells.{text_from}
+use Rattle.std.proofs.Common.{string_bytes}
 use Rattle.job_parts.proofs.Lines.{IsWritten}
 use Rattle.job_parts.proofs.cells.array_text.Given as goal
 

@@ -1,7 +1,6 @@
-use Rattle.std.proofs.Common.{◌≡◌, ◌==◌, Some, None, ap, sym, ◌∙◌, ◌++◌, ◌∷◌, [], length, if◌then◌else◌, List, ℤ, false, true, Option, rules, FitsSigned, to_z, of_z, eq-eqb}
+use Rattle.std.proofs.Common.{Some, None, ap, sym, ◌∙◌, ◌++◌, ◌∷◌, [], length, if◌then◌else◌, List, ℤ, rules, FitsSigned, eq-eqb}
 use Rattle.std.specs.Int.{w128}
 use Rattle.std.proofs.lemmas.Int.{to_z-of_z}
-use Rattle.job_parts.specs.Cells.{all_cells_at}
 use Rattle.job_parts.proofs.CellLaws.{not_empty, one_scanned, scan_ended, scan_stopped}
 use Rattle.job_parts.proofs.cells.cells_at.Goals as goal
 

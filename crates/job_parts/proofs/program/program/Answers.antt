@@ -1,5 +1,4 @@
 use Rattle.std.proofs.Common.{ap, arith, subst, sym, ◌∙◌, ◌≡◌, List}
-use Rattle.soda_ir.specs.Formula.{Formula}
 use Rattle.soda_ir.specs.Sums.{IsSum, cell_count}
 use Rattle.soda_ir.specs.Tree.{formula_of}
 use Rattle.job_parts.specs.declared.term.Term.{Term}

@@ -1,7 +1,7 @@
-use Rattle.std.proofs.Common.{◌≡◌, refl, Some, None, ap, arith, sym, ◌∙◌, subst, option_map, Option}
+use Rattle.std.proofs.Common.{◌≡◌, refl, Some, None, ap, sym, ◌∙◌, subst, option_map, Option}
 use Rattle.job_parts.specs.declared.term.Sum.{Sum}
-use Rattle.job_parts.specs.Found.{lines_of, sum_of}
-use Rattle.job_parts.specs.SumText.{Accepts, AreLines, IsSumText, SumText, program_of, sum_at}
+use Rattle.job_parts.specs.Found.{sum_of}
+use Rattle.job_parts.specs.SumText.{AreLines, SumText, program_of, sum_at}
 use Rattle.job_parts.proofs.Summed.{read_is}
 use Rattle.job_parts.proofs.TextLaws.{accepted_read, sum_takes}
 use Rattle.job_parts.proofs.program.read_program.Goals as goal

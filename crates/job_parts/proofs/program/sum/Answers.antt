@@ -1,4 +1,4 @@
-use Rattle.std.proofs.Common.{◌∙◌, ap, false}
+use Rattle.std.proofs.Common.{◌∙◌, ap}
 use Rattle.soda_ir.specs.Tree.{formula_of}
 use Rattle.job_parts.proofs.Summed.{summed_more}
 use Rattle.job_parts.proofs.program.sum.Goals as goal

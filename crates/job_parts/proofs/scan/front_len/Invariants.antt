@@ -1,5 +1,4 @@
-use Rattle.std.proofs.Common.{◌≡◌, ◌≤◌, ◌++◌, ◌-◌, length, take, drop}
-use Rattle.job_parts.specs.Scan.{front_of, rest_of}
+use Rattle.std.proofs.Common.{◌-◌, length}
 use Rattle.job_parts.proofs.Fronts.{IsScanned}
 use Rattle.job_parts.proofs.scan.front_len.Given as goal
 

@@ -1,4 +1,4 @@
-use Rattle.std.proofs.Common.{◌≡◌, ◌≤◌, ◌^◌, arith, subst, sym, None, MatchOption, Option, ℕ}
+use Rattle.std.proofs.Common.{◌≡◌, ◌≤◌, ◌^◌, arith, subst, sym, MatchOption, Option, ℕ}
 use Rattle.job_parts.specs.Scan.{value_behind}
 use Rattle.job_parts.proofs.Fronts.{past_end}
 use Rattle.job_parts.proofs.scan.value.Goals as goal

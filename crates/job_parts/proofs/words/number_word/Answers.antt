@@ -1,4 +1,4 @@
-use Rattle.std.proofs.Common.{ap, subst, List, ℕ, MatchOption, ◌≡◌}
+use Rattle.std.proofs.Common.{subst, List, ℕ, MatchOption, ◌≡◌}
 use Rattle.std.specs.Fmt.{decimal}
 use Rattle.job_parts.specs.Words.{IsNumberWord}
 use Rattle.job_parts.proofs.Numbered.{number_means}

@@ -1,4 +1,4 @@
-use Rattle.std.proofs.Common.{◌≡◌, [], Some, sym, ◌∙◌, subst, ap, rules, FitsSigned, to_z, of_z, slice_index_or}
+use Rattle.std.proofs.Common.{[], sym, ◌∙◌, ap, rules, FitsSigned, to_z, of_z, slice_index_or}
 use Rattle.std.specs.Int.{w128}
 use Rattle.std.proofs.lemmas.Int.{to_z-of_z}
 use Rattle.int_types.specs.IntType.{wrapped}

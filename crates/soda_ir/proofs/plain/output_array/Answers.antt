@@ -1,7 +1,7 @@
 use Rattle.std.proofs.Common.{◌≡◌, ◌∷◌, [], ℕ, ap, sym, ◌∙◌, List, ℤ, arith}
 use Rattle.soda_ir.specs.Arrays.{cell, whole}
 use Rattle.soda_ir.specs.Points.{listed, point}
-use Rattle.soda_ir.specs.Program.{cells_at, extents_at, plain, stencil_of}
+use Rattle.soda_ir.specs.Program.{extents_at, plain, stencil_of}
 use Rattle.soda_ir.proofs.Sum.{cells_are, rows_are}
 use Rattle.soda_ir.proofs.plain.output_array.Goals as goal
 

@@ -1,8 +1,7 @@
-use Rattle.std.proofs.Common.{rules, ◌≡◌, List, ℤ, ℕ, sym, ◌∙◌, ap, FitsSigned, to_z, of_z}
+use Rattle.std.proofs.Common.{rules, ◌≡◌, ℤ, ◌∙◌, FitsSigned, to_z, of_z}
 use Rattle.std.specs.Int.{w128}
 use Rattle.std.proofs.lemmas.Int.{to_z-of_z}
 use Rattle.std.proofs.lemmas.List.{length-map}
-use Rattle.int_types.specs.IntType.{wrapped}
 use Rattle.soda_ir.proofs.Values.{read_known, un_step, bin_step, select_step, cast_step}
 use Rattle.soda_ir.proofs.value.+evaluate.Goals as goal
 
