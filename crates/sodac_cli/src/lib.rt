@@ -9,3 +9,6 @@ mod top;
 
 pub use status::Status;
 pub use top::execute;
+
+#[cfg(test)]
+mod tests;
