@@ -3,6 +3,7 @@ use Rattle.std.proofs.Common.{◌≡◌, ◌≢◌, ◌⊎◌, ◌<◌, ◌≤�
 use Rattle.std.specs.Global.{Global}
 use Rattle.std.specs.declared.vec.Vec.{Vec}
 use Rattle.std.proofs.lemmas.Bool.{eqb-true}
+use Rattle.std.proofs.lemmas.List.{append-nil}
 use mathlib.Core.Path.{fun_ext}
 use Rattle.soda_io.specs.Cause.{Rose}
 use Rattle.soda_io.specs.Store.{KeepsBytes, Store}
@@ -11,17 +12,20 @@ use Rattle.soda_io.specs.declared.role.FileRole.TheVariants.{Program, Modules, P
 use Rattle.whole_files.specs.Journal.{gots}
 use Rattle.whole_files.specs.declared.reading.ReadFail.{ReadFail}
 use Rattle.whole_files.specs.declared.reading.ReadFail.TheVariants as fail
-use Rattle.soda_ir.specs.Program.{PlainProgram}
-use Rattle.job_parts.specs.SumText.{Accepts}
+use Rattle.soda_ir.specs.Program.{PlainProgram, cells_at}
+use Rattle.job_parts.specs.SumText.{Accepts, most_text}
 use Rattle.job_parts.specs.Words.{TakesWords}
 use Rattle.sodac_cli.specs.declared.status.Status.{Status}
 use Rattle.sodac_cli.specs.declared.status.Status.TheVariants as is
 use Rattle.sodac_cli.specs.Job.{AsksFor, JobFile, PlainJob, array_files, job_files}
-use Rattle.sodac_cli.specs.Journal.{Asks, Broken, Clean, Ends, IsFailure, asking, makings}
-use Rattle.sodac_cli.specs.Meaning.{Before, Faults, HasUnbuiltText, Holding, IsAfterWords, IsBegun, IsFine, IsUnbuiltJob, Leaves, Tells, WordsSay, text}
-use Rattle.sodac_cli.specs.Stages.{ReadLog, TextLog}
-use Rattle.sodac_cli.proofs.Begun.{Always}
-use Rattle.sodac_cli.proofs.Logs.{broken_quiet, failure_behind, good_quiet, then_broken, then_clean}
+use Rattle.sodac_cli.specs.Journal.{Asks, Broken, Clean, Ends, IsAtEnd, IsFailure, asking, makings}
+use Rattle.sodac_cli.specs.Meaning.{Before, Faults, HasUnbuiltText, Holding, IsAfterWords, IsBegun, IsFine, IsUnbuiltJob, Leaves, Tells, WordsSay, most_cells, text}
+use Rattle.sodac_cli.specs.Stages.{ReadLog, TextBytes, TextLog}
+use Rattle.sodac_cli.proofs.Begun.{Always, not_opened}
+use Rattle.sodac_cli.proofs.Logs.{broken_quiet, failure_behind, good_quiet, gots-append, then_broken, then_clean}
+
+some_same : {A : Type 0} (x y : A) → Some x ≡ Some y → x ≡ y
+some_same x y e = cc
 
 pub same_holding : (s0 s1 : Store) → KeepsBytes s0 s1 → s1.bytes ≡ s0.bytes
 same_holding s0 s1 keeps = fun_ext keeps
@@ -35,29 +39,29 @@ module _ (g : ℕ) (a b : Store) (j : PlainJob) where
   first_only (suc k) lt = absurd (omega arith)
 
   -- where only the program was asked for
-  pub unbuilt_first : ReadLog g a b j.program → Asks g a b (job_files j) (Before a.bytes j) is.NotYetBuilt
-  unbuilt_first l = record { made = program_file ∷ []; rest = array_files j.input j.output; order = refl; only = first_only; ends = l.clean }
+  pub unbuilt_first : (IsBegun a.bytes j → ⊥) → ReadLog g a b j.program → Asks g a b (job_files j) (Before a.bytes j) is.NotYetBuilt
+  unbuilt_first not l = record { whole = λ b e. absurd (not b); made = program_file ∷ []; rest = array_files j.input j.output; order = refl; only = first_only; ends = l.clean }
 
   pub memory_first : ReadLog g a b j.program → Asks g a b (job_files j) (Before a.bytes j) is.Memory
-  memory_first l = record { made = program_file ∷ []; rest = array_files j.input j.output; order = refl; only = first_only; ends = inl l.clean }
+  memory_first l = record { whole = λ b e. cc; made = program_file ∷ []; rest = array_files j.input j.output; order = refl; only = first_only; ends = inl l.clean }
 
-  pub long_asks : (e : ReadFail) → e ≡ fail.TooLong → TextLog g a b j.program (Err e) → Asks g a b (job_files j) (Before a.bytes j) is.NotYetBuilt
-  long_asks e same l = let P : ReadFail → Type 0 = λ x. TextLog g a b j.program (Err x) in unbuilt_first (subst P same l)
+  pub long_asks : (IsBegun a.bytes j → ⊥) → (e : ReadFail) → e ≡ fail.TooLong → TextLog g a b j.program (Err e) → Asks g a b (job_files j) (Before a.bytes j) is.NotYetBuilt
+  long_asks not e same l = let P : ReadFail → Type 0 = λ x. TextLog g a b j.program (Err x) in unbuilt_first not (subst P same l)
 
   pub program_failed_asks : (e : ReadFail) → e ≡ fail.Failed → TextLog g a b j.program (Err e) → Asks g a b (job_files j) (Before a.bytes j) (is.FileFault Program)
   program_failed_asks e same l =
       let P : ReadFail → Type 0 = λ x. TextLog g a b j.program (Err x) in
-      record { made = program_file ∷ []; rest = array_files j.input j.output; order = refl; only = first_only; ends = (0, subst P same l, refl) }
+      record { whole = λ b e. cc; made = program_file ∷ []; rest = array_files j.input j.output; order = refl; only = first_only; ends = (0, subst P same l, refl) }
 
   none_or_first : TextLog g a b j.program (Err fail.Memory) → Asks g a b (job_files j) (Before a.bytes j) is.Memory
-  none_or_first (inl c) = record { made = []; rest = job_files j; order = refl; only = λ k lt. absurd (omega arith); ends = inl c }
+  none_or_first (inl c) = record { whole = λ b e. cc; made = []; rest = job_files j; order = refl; only = λ k lt. absurd (omega arith); ends = inl c }
   none_or_first (inr l) = memory_first l
 
   pub program_memory_asks : (e : ReadFail) → e ≡ fail.Memory → TextLog g a b j.program (Err e) → Asks g a b (job_files j) (Before a.bytes j) is.Memory
   program_memory_asks e same l = let P : ReadFail → Type 0 = λ x. TextLog g a b j.program (Err x) in none_or_first (subst P same l)
 
   -- where the run came behind it
-  module _ (c : Store) (h : ℕ) (next : h ≡ g + 1) (begun : IsBegun a.bytes j) (log : ReadLog g a b j.program) where
+  module _ (c : Store) (h : ℕ) (next : h ≡ g + 1) (begun : IsBegun a.bytes j) (log : ReadLog g a b j.program) (end : IsAtEnd (gots g log.clean.entries)) where
     every : (k : ℕ) → Before a.bytes j k
     every zero = tt
     every (suc k) = begun
@@ -69,7 +73,7 @@ module _ (g : ℕ) (a b : Store) (j : PlainJob) where
           | false ↦ λ q. inl (log.only k (λ e. let y : (k == g) ≡ true = eq-eqb k g e in let bad : true ≡ false = sym y ∙ q in cc))
         ] refl
 
-    clean_behind : (made : List (Bool × List ℕ)) → Clean h b c made → Clean g a c ((true, j.program) ∷ made)
+    abbrev clean_behind : (made : List (Bool × List ℕ)) → Clean h b c made → Clean g a c ((true, j.program) ∷ made)
     clean_behind made second =
         then_clean g h a b c ((true, j.program) ∷ []) made (omega arith) log.clean second (λ k. apart_from k (gots k second.entries) (λ lt. good_quiet h k second.entries second.good lt))
 
@@ -80,9 +84,19 @@ module _ (g : ℕ) (a b : Store) (j : PlainJob) where
         (failure_behind g n log.clean.entries second.front (ap length log.clean.asked) second.entry (subst P next second.failure))
         (λ k. apart_from k (gots k (second.front ++ second.entry ∷ [])) (λ lt. broken_quiet h k n b c made second lt))
 
+    -- the program was read to its end, and so was the input
+    program_out : {made : List (Bool × List ℕ)} (second : Clean h b c made) → IsAtEnd (gots g (log.clean.entries ++ second.entries))
+    program_out second =
+        (end.0, gots-append g log.clean.entries second.entries ∙ ap (λ (gs : List (Option ℕ)). gots g log.clean.entries ++ gs) (good_quiet h g second.entries second.good (omega arith)) ∙ append-nil (gots g log.clean.entries) ∙ end.1)
+
+    later_out : {made : List (Bool × List ℕ)} (second : Clean h b c made) → IsAtEnd (gots h second.entries) → IsAtEnd (gots (g + 1) (log.clean.entries ++ second.entries))
+    later_out second e =
+        let P : ℕ → Type 0 = λ i. IsAtEnd (gots i (log.clean.entries ++ second.entries)) in
+        subst P next (e.0, gots-append h log.clean.entries second.entries ∙ ap (λ (gs : List (Option ℕ)). gs ++ gots h second.entries) (log.only h (λ q. absurd (omega arith))) ∙ e.1)
+
     -- how the journal ends behind the program
     ends_behind : (made : List (Bool × List ℕ)) (s : Status) → IsAfterWords s → Ends h b c (array_files j.input j.output) made s → Ends g a c (job_files j) ((true, j.program) ∷ made) s
-    ends_behind made is.Ok w e = clean_behind made e
+    ends_behind made is.Ok w e = (clean_behind made e.0, record { all = ap (λ (ms : List (Bool × List ℕ)). (true, j.program) ∷ ms) e.1.all; out = (λ o. program_out e.0, (λ o. later_out e.0 (e.1.out.0 o), (λ o. absurd (not_opened o), tt))) })
     ends_behind made is.NotYetBuilt w e = clean_behind made e
     ends_behind made is.Usage w e = absurd w
     ends_behind made (is.FileFault role) w e = (suc e.0, broken_behind made e.0 e.1, e.2)
@@ -95,6 +109,7 @@ module _ (g : ℕ) (a b : Store) (j : PlainJob) where
       rest = l.rest;
       order = ap (λ (fs : List JobFile). program_file ∷ fs) l.order;
       only = λ k lt. every k;
+      whole = λ y e. l.whole tt e;
       ends = ends_behind (map asking l.made) s w l.ends;
     }
 
@@ -118,3 +133,25 @@ module _ (old new : Holding) (j : PlainJob) (before now : ℕ) where
   refused is.NotYetBuilt t f fine sound = inl refl
   refused is.Usage t f fine sound = absurd t
   refused (is.FileFault role) t f fine sound = absurd (sound f)
+
+-- a program that is begun is no longer than its limit, and of the form that is built
+pub long_not_begun : (h : Holding) (j : PlainJob) (bytes : List ℕ) → h j.program ≡ Some bytes → most_text < length bytes → IsBegun h j → ⊥
+long_not_begun h j bytes there lt b =
+    let same : bytes ≡ b.program.text = some_same bytes b.program.text (sym there ∙ b.program.there) in
+    absurd (omega (arith, ap length same, b.program.accepted.short))
+
+pub unbuilt_not_begun : (h : Holding) (j : PlainJob) (bytes : List ℕ) → h j.program ≡ Some bytes → ((q : PlainProgram) → Accepts bytes q → ⊥) → IsBegun h j → ⊥
+unbuilt_not_begun h j bytes there none b =
+    let same : b.program.text ≡ bytes = some_same b.program.text bytes (sym b.program.there ∙ there) in
+    let P : List ℕ → Type 0 = λ t. Accepts t b.plain in
+    none b.plain (subst P same b.program.accepted)
+
+pub many_not_begun : (h : Holding) (j : PlainJob) (bytes : List ℕ) (p : PlainProgram) → h j.program ≡ Some bytes → ((q : PlainProgram) → Accepts bytes q → q ≡ p) → most_cells < cells_at p j.rows → IsBegun h j → ⊥
+many_not_begun h j bytes p there only lt b =
+    let same : b.program.text ≡ bytes = some_same b.program.text bytes (sym b.program.there ∙ there) in
+    let P : List ℕ → Type 0 = λ t. Accepts t b.plain in
+    let one = only b.plain (subst P same b.program.accepted) in
+    absurd (omega (arith, ap (λ q. cells_at q j.rows) one, b.few))
+
+pub too_long : (old : Store) (name : List ℕ) (e : ReadFail) → e ≡ fail.TooLong → TextBytes old name (Err e) → (bytes : List ℕ) × (old.bytes name ≡ Some bytes) × (most_text < length bytes)
+too_long old name e same t = let P : ReadFail → Type 0 = λ x. TextBytes old name (Err x) in subst P same t

@@ -13,7 +13,7 @@ use Rattle.whole_files.specs.declared.reading.ReadFail.TheVariants as fail
 use Rattle.whole_files.specs.Journal.{IsGot, IsTaken, NoneAfterEnd, gots}
 use Rattle.whole_files.specs.Reading.{ReadsWhole, last_read}
 use Rattle.whole_files.specs.Writing.{WritesWhole, last_write}
-use Rattle.sodac_cli.specs.Journal.{Broken, Clean, IsFailure, IsGood, NoneReadsOn, makings}
+use Rattle.sodac_cli.specs.Journal.{Broken, Clean, IsAtEnd, IsFailure, IsGood, NoneReadsOn, makings}
 use Rattle.sodac_cli.specs.Stages.{OnlyReads}
 
 pub makings-append : (xs ys : List FileCall) → makings (xs ++ ys) ≡ makings xs ++ makings ys
@@ -42,6 +42,10 @@ other_read k id asked got es ne =
       | true ↦ λ q. absurd (ne (sym (eqb-true id k q)))
       | false ↦ λ q. refl
     ] refl
+
+-- a read of the id
+own_read : (id asked : ℕ) (got : Option ℕ) → gots id (Read id asked got ∷ []) ≡ got ∷ []
+own_read id asked got = ap (λ t. if t then (got ∷ []) else []) (eq-eqb id id refl)
 
 abbrev pub Quiet : List FileCall → Type 0
 Quiet entries = (k : ℕ) → gots k entries ≡ []
@@ -146,6 +150,11 @@ pub record OneLog (g id : ℕ) (a b : Store) (made : List (Bool × List ℕ)) : 
   pub clean : Clean g a b made
   pub only : OnlyReads id clean.entries
 
+-- the same, where the reads met the end
+pub record WholeLog (g id : ℕ) (a b : Store) (made : List (Bool × List ℕ)) : Type 0 where
+  pub one : OneLog g id a b made
+  pub end : IsAtEnd (gots id one.clean.entries)
+
 -- nothing was asked
 pub silent : (g : ℕ) (a b : Store) → b.calls ≡ a.calls ++ [] → QuietLog g a b []
 silent g a b e = record { clean = record { entries = []; calls = e; good = All-nil (IsGood g); asked = refl; ends = λ k. tt }; quiet = λ k. refl }
@@ -170,7 +179,7 @@ create_failed g m a b name o = record { front = []; entry = Create name None; ca
 
 -- a file that was read whole, or as far as it went
 module _ (g m id most : ℕ) (a b : Store) (le : g ≤ id) where
-  read_log : (r : Result (List ℕ) ReadFail) (last : List FileCall) → (w : ReadsWhole m a b id most r) → last_read id w.asked r ≡ last → All (IsGood g) last → makings last ≡ [] → OnlyReads id last → OneLog g id a b []
+  abbrev read_log : (r : Result (List ℕ) ReadFail) (last : List FileCall) → (w : ReadsWhole m a b id most r) → last_read id w.asked r ≡ last → All (IsGood g) last → makings last ≡ [] → OnlyReads id last → OneLog g id a b []
   read_log r last w e good none only = record {
     clean = record {
       entries = w.entries ++ last;
@@ -183,9 +192,11 @@ module _ (g m id most : ℕ) (a b : Store) (le : g ≤ id) where
     only = λ k ne. gots-append k w.entries last ∙ ap (λ (gs : List (Option ℕ)). gs ++ gots k last) (gots_only id w.entries w.gots k ne) ∙ only k ne;
   }
 
-  pub read_whole_log : (bytes : List ℕ) → ReadsWhole m a b id most (Ok bytes) → OneLog g id a b []
-  read_whole_log bytes w =
-      read_log (Ok bytes) (Read id w.asked (Some 0) ∷ []) w refl (All-cons (IsGood g) (Read id w.asked (Some 0)) [] le (All-nil (IsGood g))) refl (λ k ne. other_read k id w.asked (Some 0) [] ne)
+  pub read_whole_log : (bytes : List ℕ) → ReadsWhole m a b id most (Ok bytes) → WholeLog g id a b []
+  read_whole_log bytes w = record {
+    one = read_log (Ok bytes) (Read id w.asked (Some 0) ∷ []) w refl (All-cons (IsGood g) (Read id w.asked (Some 0)) [] le (All-nil (IsGood g))) refl (λ k ne. other_read k id w.asked (Some 0) [] ne);
+    end = (gots id w.entries, gots-append id w.entries (Read id w.asked (Some 0) ∷ []) ∙ ap (λ (gs : List (Option ℕ)). gots id w.entries ++ gs) (own_read id w.asked (Some 0)));
+  }
 
   pub read_long_log : ReadsWhole m a b id most (Err fail.TooLong) → OneLog g id a b []
   read_long_log w = read_log (Err fail.TooLong) [] w refl (All-nil (IsGood g)) refl (λ k ne. refl)

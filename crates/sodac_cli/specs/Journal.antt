@@ -1,5 +1,5 @@
 -- What a job asks of its files, as the journal of calls shows it.
-use Rattle.std.specs.Prelude.{◌≡◌, ◌⊎◌, ℕ, ◌+◌, ◌<◌, ◌≤◌, Bool, true, false, List, [], ◌∷◌, ◌++◌, map, length, slice_get, Some, None, All}
+use Rattle.std.specs.Prelude.{◌≡◌, ◌⊎◌, ℕ, ◌+◌, ◌<◌, ◌≤◌, Bool, true, false, List, [], ◌∷◌, ◌++◌, map, length, slice_get, Option, Some, None, All}
 use Rattle.soda_io.specs.declared.call.FileCall.{FileCall}
 use Rattle.soda_io.specs.declared.call.FileCall.TheVariants.{Open, Create, Read, Write}
 use Rattle.soda_io.specs.declared.role.FileRole.{FileRole}
@@ -65,22 +65,38 @@ pub record Broken (given : ℕ) (old new : Store) (made : List (Bool × List ℕ
 abbrev pub HasRole : List JobFile → ℕ → FileRole → Type 0
 HasRole files n role = slice_get (map (λ f. f.role) files) n ≡ Some role
 
+abbrev pub asking : JobFile → Bool × List ℕ
+asking f = (f.opened, f.name)
+
+-- the reads met the end: the last of them got 0
+abbrev pub IsAtEnd : List (Option ℕ) → Type 0
+IsAtEnd gs = (front : List (Option ℕ)) × (gs ≡ front ++ Some 0 ∷ [])
+
+-- each of the files that is opened was read to its end; the first of them has the id `id`
+abbrev pub AreReadOut : ℕ → List JobFile → List FileCall → Type 0
+AreReadOut id [] entries = Unit {0}
+AreReadOut id (f ∷ fs) entries = (f.opened ≡ true → IsAtEnd (gots id entries)) × AreReadOut (id + 1) fs entries
+
+-- all files were asked for, and each that is opened was read to its end
+pub record AreDone (given : ℕ) (files : List JobFile) (made : List (Bool × List ℕ)) (entries : List FileCall) : Type 0 where
+  pub all : made ≡ map asking files
+  pub out : AreReadOut given files entries
+
 -- how the journal ends: a failed call is the last, and makes the status a fault of its file
 abbrev pub Ends : ℕ → Store → Store → List JobFile → List (Bool × List ℕ) → Status → Type 0
 Ends given old new files made (is.FileFault role) = (n : ℕ) × Broken given old new made n × HasRole files n role
 Ends given old new files made is.Memory = Clean given old new made ⊎ ((n : ℕ) × Broken given old new made n)
-Ends given old new files made is.Ok = Clean given old new made
+Ends given old new files made is.Ok = (c : Clean given old new made) × AreDone given files made c.entries
 Ends given old new files made is.Usage = Clean given old new made
 Ends given old new files made is.NotYetBuilt = Clean given old new made
 
-abbrev pub asking : JobFile → Bool × List ℕ
-asking f = (f.opened, f.name)
-
 -- The files that were asked for are the first of the job's, in order, each once and under its own name, and each only
--- where nothing before it refused; and the last call failed exactly where the status is a fault of its file.
+-- where nothing before it refused; where the program is fine, a refusal comes only once all were asked for; and the last
+-- call failed exactly where the status is a fault of its file.
 pub record Asks (given : ℕ) (old new : Store) (files : List JobFile) (Before : ℕ → Type 0) (status : Status) : Type 0 where
   pub made : List JobFile
   pub rest : List JobFile
   pub order : files ≡ made ++ rest
   pub only : (k : ℕ) → k < length made → Before k
+  pub whole : Before 1 → status ≡ is.NotYetBuilt → rest ≡ []
   pub ends : Ends given old new files (map asking made) status

@@ -8,7 +8,7 @@ use Rattle.whole_files.specs.Journal.{gots}
 use Rattle.whole_files.specs.declared.reading.ReadFail.{ReadFail}
 use Rattle.whole_files.specs.declared.reading.ReadFail.TheVariants.{TooLong, Failed, Memory}
 use Rattle.job_parts.specs.SumText.{most_text}
-use Rattle.sodac_cli.specs.Journal.{Broken, Clean}
+use Rattle.sodac_cli.specs.Journal.{Broken, Clean, IsAtEnd}
 
 -- reads are of this id alone
 abbrev pub OnlyReads : ℕ → List FileCall → Type 0
@@ -20,7 +20,7 @@ pub record ReadLog (given : ℕ) (old new : Store) (name : List ℕ) : Type 0 wh
   pub only : OnlyReads given clean.entries
 
 abbrev pub TextLog : ℕ → Store → Store → List ℕ → Result (Vec ℕ Global) ReadFail → Type 0
-TextLog given old new name (Ok bytes) = ReadLog given old new name
+TextLog given old new name (Ok bytes) = (l : ReadLog given old new name) × IsAtEnd (gots given l.clean.entries)
 TextLog given old new name (Err TooLong) = ReadLog given old new name
 TextLog given old new name (Err Failed) = Broken given old new ((true, name) ∷ []) 0
 TextLog given old new name (Err Memory) = Clean given old new [] ⊎ ReadLog given old new name

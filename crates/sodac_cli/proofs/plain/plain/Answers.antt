@@ -1,13 +1,15 @@
-use Rattle.std.proofs.Common.{◌≡◌, arith, Some, ap, sym, subst, ◌∙◌, List, ℕ}
-use Rattle.soda_ir.specs.Program.{plain}
+use Rattle.std.proofs.Common.{◌≡◌, ◌<◌, arith, Some, ap, sym, subst, ◌∙◌, List, ℕ}
+use Rattle.soda_ir.specs.Program.{cells_at, plain}
 use Rattle.sodac_cli.specs.Job.{job_of}
-use Rattle.sodac_cli.specs.Meaning.{Holding, IsBegun, Leaves, Tells}
-use Rattle.sodac_cli.proofs.Behind.{asks_behind, long_asks, memory_first, program_failed_asks, program_memory_asks, same_holding, unbuilt_first, unbuilt_text}
+use Rattle.sodac_cli.specs.Meaning.{Holding, IsBegun, Leaves, Tells, most_cells}
+use Rattle.sodac_cli.proofs.Behind.{asks_behind, long_asks, long_not_begun, many_not_begun, memory_first, program_failed_asks, program_memory_asks, same_holding, too_long, unbuilt_first, unbuilt_not_begun, unbuilt_text}
 use Rattle.sodac_cli.proofs.Running.{rows_are}
 use Rattle.sodac_cli.proofs.plain.plain.Goals as goal
 
 pub returns-in-Err-TooLong-clause-asks : goal.returns-in-Err-TooLong-clause-asks
-returns-in-Err-TooLong-clause-asks g c = λ told. long_asks _ _ _ (job_of c.args.job.now) c.in-Err-TooLong.field-0 c.in-Err-TooLong.field-0-is (c.in-Err-TooLong.ensures.log told)
+returns-in-Err-TooLong-clause-asks g c = λ told.
+    let long = too_long (g.F.Files.store c.args.files.now) c.args.job.now.program.now c.in-Err-TooLong.field-0 c.in-Err-TooLong.field-0-is (c.in-Err-TooLong.ensures.bytes told) in
+    long_asks _ _ _ (job_of c.args.job.now) (long_not_begun _ (job_of c.args.job.now) long.0 long.1 long.2) c.in-Err-TooLong.field-0 c.in-Err-TooLong.field-0-is (c.in-Err-TooLong.ensures.log told)
 
 pub returns-in-Err-Failed-clause-asks : goal.returns-in-Err-Failed-clause-asks
 returns-in-Err-Failed-clause-asks g c = λ told. program_failed_asks _ _ _ (job_of c.args.job.now) c.in-Err-Failed.field-0 c.in-Err-Failed.field-0-is (c.in-Err-Failed.ensures.log told)
@@ -16,7 +18,10 @@ pub returns-in-Err-Memory-clause-asks : goal.returns-in-Err-Memory-clause-asks
 returns-in-Err-Memory-clause-asks g c = λ told. program_memory_asks _ _ _ (job_of c.args.job.now) c.in-Err-Memory.field-0 c.in-Err-Memory.field-0-is (c.in-Err-Memory.ensures.log told)
 
 pub returns-in-Ok-None-clause-asks : goal.returns-in-Ok-None-clause-asks
-returns-in-Ok-None-clause-asks g c = λ told. unbuilt_first _ _ _ (job_of c.args.job.now) (c.in-Ok.ensures.log told)
+returns-in-Ok-None-clause-asks g c = λ told.
+    let none = rw c.in-Ok-None.field-0-is at c.in-Ok-None.ensures.none in
+    let there = (c.in-Ok.ensures.bytes told).0 ∙ ap (λ (xs : List ℕ). Some xs) (sym c.deref.ensures.value) in
+    unbuilt_first _ _ _ (job_of c.args.job.now) (unbuilt_not_begun _ (job_of c.args.job.now) c.deref.result.now there none) (c.in-Ok.ensures.log told).0
 
 pub returns-in-Ok-None-clause-tells : goal.returns-in-Ok-None-clause-tells
 returns-in-Ok-None-clause-tells g c = λ told.
@@ -24,10 +29,15 @@ returns-in-Ok-None-clause-tells g c = λ told.
     unbuilt_text _ (job_of c.args.job.now) c.in-Ok.text.items c.deref.result.now (c.in-Ok.ensures.bytes told).0 c.deref.ensures.value none
 
 pub returns-in-Err-clause-asks : goal.returns-in-Err-clause-asks
-returns-in-Err-clause-asks g c = λ told. memory_first _ _ _ (job_of c.args.job.now) (c.in-Ok.ensures.log told)
+returns-in-Err-clause-asks g c = λ told. memory_first _ _ _ (job_of c.args.job.now) (c.in-Ok.ensures.log told).0
 
 pub returns-then-job-gt-MOST_CELLS-clause-asks : goal.returns-then-job-gt-MOST_CELLS-clause-asks
-returns-then-job-gt-MOST_CELLS-clause-asks g c = λ told. unbuilt_first _ _ _ (job_of c.args.job.now) (c.in-Ok.ensures.log told)
+returns-then-job-gt-MOST_CELLS-clause-asks g c = λ told.
+    let only = rw c.in-Ok-Some.field-0-is at c.in-Ok-Some.ensures.only in
+    let there = (c.in-Ok.ensures.bytes told).0 ∙ ap (λ (xs : List ℕ). Some xs) (sym c.deref.ensures.value) in
+    let rows = rows_are (plain c.in-Ok-Some.program) c.parts-valid.ensures.valid c.args.job.now.rows in
+    let many : most_cells < cells_at (plain c.in-Ok-Some.program) c.args.job.now.rows = omega (arith, rows, c.if-job-gt-MOST_CELLS.true) in
+    unbuilt_first _ _ _ (job_of c.args.job.now) (many_not_begun _ (job_of c.args.job.now) c.deref.result.now (plain c.in-Ok-Some.program) there only many) (c.in-Ok.ensures.log told).0
 
 pub returns-clause-asks : goal.returns-clause-asks
 returns-clause-asks g c = λ told.
@@ -38,7 +48,7 @@ returns-clause-asks g c = λ told.
       program = record { text = c.deref.result.now; there = there; accepted = found };
       few = omega (arith, rows_are (plain c.in-Ok-Some.program) c.parts-valid.ensures.valid c.args.job.now.rows, c.if-job-gt-MOST_CELLS.false);
     } in
-    asks_behind _ _ _ (job_of c.args.job.now) _ _ c.in-Ok.ensures.given begun (c.in-Ok.ensures.log told) c.run.result c.run.ensures.begun (c.run.ensures.asks told)
+    asks_behind _ _ _ (job_of c.args.job.now) _ _ c.in-Ok.ensures.given begun (c.in-Ok.ensures.log told).0 (c.in-Ok.ensures.log told).1 c.run.result c.run.ensures.begun (c.run.ensures.asks told)
 
 pub returns-clause-leaves : goal.returns-clause-leaves
 returns-clause-leaves g c = λ told.
