@@ -1,24 +1,19 @@
 -- What the run of a job does to its files, exit by exit.
-use Rattle.std.proofs.Common.{◌≡◌, ◌≢◌, ◌⊎◌, ◌<◌, ◌≤◌, ℕ, zero, suc, ◌+◌, ◌*◌, ◌-◌, Bool, true, false, List, [], ◌∷◌, ◌++◌, length, take, drop, unwrap_or, Option, Some, None, Result, Ok, Err, IsErr, refl, sym, ap, subst, ◌∙◌, arith, inl, inr, ℤ}
+use Rattle.std.proofs.Common.{◌≡◌, ℕ, ◌+◌, ◌-◌, true, false, List, [], ◌∷◌, ◌++◌, length, Option, Result, Ok, Err, refl, ap, subst, ◌∙◌, arith, inl, inr}
 use Rattle.std.proofs.lemmas.List.{append-nil}
 use Rattle.soda_io.specs.declared.error.IoErr.{IoErr}
 use Rattle.soda_io.specs.declared.error.IoErr.TheVariants as io
 use Rattle.soda_io.specs.declared.role.FileRole.TheVariants.{Input, Output}
-use Rattle.soda_io.specs.Store.{Store, Creates, KeepsBytes, Opens, content, left}
+use Rattle.soda_io.specs.Store.{Store, Creates, Opens}
 use Rattle.whole_files.specs.declared.reading.ReadFail.{ReadFail}
 use Rattle.whole_files.specs.declared.reading.ReadFail.TheVariants as fail
 use Rattle.whole_files.specs.Journal.{gots}
 use Rattle.whole_files.specs.Reading.{ReadsWhole}
 use Rattle.whole_files.specs.Writing.{WritesWhole}
-use Rattle.soda_ir.specs.Program.{PlainProgram, cells_at}
-use Rattle.job_parts.specs.Cells.{AreCells}
-use Rattle.sodac_cli.specs.declared.status.Status.{Status}
 use Rattle.sodac_cli.specs.declared.status.Status.TheVariants as is
-use Rattle.sodac_cli.specs.Job.{JobFile, PlainJob, array_files}
-use Rattle.sodac_cli.specs.Journal.{Asks, Broken, Clean, IsAtEnd, asking}
-use Rattle.sodac_cli.specs.Meaning.{HasProgram, HasUnbuiltInput, IsBegun, IsFine, IsFront, IsTextOver, IsUnbuiltJob, Leaves, most_cells, output_text, text_of}
+use Rattle.sodac_cli.specs.Job.{array_files}
+use Rattle.sodac_cli.specs.Journal.{Asks, Clean, IsAtEnd}
 use Rattle.sodac_cli.proofs.Logs.{OneLog, QuietLog, WholeLog, create_failed, created, gots-append, one_made, open_failed, opened, read_failed, read_long_log, read_memory_log, read_whole_log, silent, then_broken, then_clean, write_failed, write_failed_quiet, written_log}
-use Rattle.sodac_cli.proofs.Running.{cells_short}
 
 abbrev pub Always : ℕ → Type 0
 Always k = Unit {0}

@@ -1,25 +1,21 @@
 -- The run of a job behind the reading of its program.
-use Rattle.std.proofs.Common.{◌≡◌, ◌≢◌, ◌⊎◌, ◌<◌, ◌≤◌, ◌==◌, ℕ, zero, suc, ◌+◌, Bool, true, false, List, [], ◌∷◌, ◌++◌, map, length, slice_get, Option, Some, None, Result, Ok, Err, refl, sym, ap, subst, ◌∙◌, arith, inl, inr, eq-eqb, String}
-use Rattle.std.specs.Global.{Global}
-use Rattle.std.specs.declared.vec.Vec.{Vec}
+use Rattle.std.proofs.Common.{◌≡◌, ◌⊎◌, ◌<◌, ◌==◌, ℕ, zero, suc, ◌+◌, Bool, true, false, List, [], ◌∷◌, ◌++◌, map, length, Option, Some, Err, refl, sym, ap, subst, ◌∙◌, arith, inl, inr, eq-eqb}
 use Rattle.std.proofs.lemmas.Bool.{eqb-true}
 use Rattle.std.proofs.lemmas.List.{append-nil}
 use mathlib.Core.Path.{fun_ext}
 use Rattle.soda_io.specs.Cause.{Rose}
 use Rattle.soda_io.specs.Store.{KeepsBytes, Store}
-use Rattle.soda_io.specs.declared.role.FileRole.{FileRole}
-use Rattle.soda_io.specs.declared.role.FileRole.TheVariants.{Program, Modules, Params, Stall, Input, Output}
+use Rattle.soda_io.specs.declared.role.FileRole.TheVariants.{Program}
 use Rattle.whole_files.specs.Journal.{gots}
 use Rattle.whole_files.specs.declared.reading.ReadFail.{ReadFail}
 use Rattle.whole_files.specs.declared.reading.ReadFail.TheVariants as fail
 use Rattle.soda_ir.specs.Program.{PlainProgram, cells_at}
 use Rattle.job_parts.specs.SumText.{Accepts, most_text}
-use Rattle.job_parts.specs.Words.{TakesWords}
 use Rattle.sodac_cli.specs.declared.status.Status.{Status}
 use Rattle.sodac_cli.specs.declared.status.Status.TheVariants as is
-use Rattle.sodac_cli.specs.Job.{AsksFor, JobFile, PlainJob, array_files, job_files}
-use Rattle.sodac_cli.specs.Journal.{Asks, Broken, Clean, Ends, IsAtEnd, IsFailure, asking, makings}
-use Rattle.sodac_cli.specs.Meaning.{Before, Faults, HasUnbuiltText, Holding, IsAfterWords, IsBegun, IsFine, IsUnbuiltJob, Leaves, Tells, WordsSay, most_cells, text}
+use Rattle.sodac_cli.specs.Job.{JobFile, PlainJob, array_files, job_files}
+use Rattle.sodac_cli.specs.Journal.{Asks, Broken, Clean, Ends, IsAtEnd, IsFailure, asking}
+use Rattle.sodac_cli.specs.Meaning.{Before, Faults, Holding, IsAfterWords, IsBegun, IsFine, IsUnbuiltJob, Tells, most_cells, text}
 use Rattle.sodac_cli.specs.Stages.{ReadLog, TextBytes, TextLog}
 use Rattle.sodac_cli.proofs.Begun.{Always, not_opened}
 use Rattle.sodac_cli.proofs.Logs.{broken_quiet, failure_behind, good_quiet, gots-append, then_broken, then_clean}

@@ -1,10 +1,10 @@
 -- What isn't built and what is fine exclude each other.
-use Rattle.std.proofs.Common.{◌≡◌, ◌<◌, ◌≤◌, ℕ, List, Option, Some, refl, sym, ap, subst, ◌∙◌, arith, ℤ}
+use Rattle.std.proofs.Common.{◌≡◌, ℕ, List, Some, sym, ap, subst, ◌∙◌, arith}
 use Rattle.soda_ir.specs.Program.{PlainProgram, cells_at}
 use Rattle.job_parts.specs.Cells.{AreCells}
 use Rattle.job_parts.specs.SumText.{Accepts}
 use Rattle.sodac_cli.specs.Job.{PlainJob}
-use Rattle.sodac_cli.specs.Meaning.{HasProgram, HasUnbuiltInput, HasUnbuiltRows, HasUnbuiltText, Holding, IsBegun, IsFine, IsUnbuiltJob, input, most_cells, rows, text}
+use Rattle.sodac_cli.specs.Meaning.{HasProgram, Holding, IsFine, IsUnbuiltJob, input, rows, text}
 
 some_same : {A : Type 0} (x y : A) → Some x ≡ Some y → x ≡ y
 some_same x y e = cc

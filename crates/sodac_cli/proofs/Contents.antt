@@ -1,5 +1,5 @@
 -- What the run of a job finds in its files, and what it leaves there.
-use Rattle.std.proofs.Common.{◌≡◌, ◌≢◌, ◌⊎◌, ◌<◌, ◌≤◌, ℕ, ◌+◌, ◌*◌, ◌-◌, Bool, true, false, List, [], ◌∷◌, ◌++◌, length, take, drop, unwrap_or, Option, Some, None, Result, Ok, Err, IsErr, OnOk, refl, sym, ap, subst, ◌∙◌, arith, inl, inr, ℤ}
+use Rattle.std.proofs.Common.{◌≡◌, ◌≢◌, ◌<◌, ◌≤◌, ℕ, ◌+◌, ◌*◌, true, false, List, [], length, take, drop, unwrap_or, Option, Some, None, Result, Ok, refl, sym, ap, ◌∙◌, arith, inl, inr, ℤ}
 use Rattle.std.proofs.lemmas.List.{take_all}
 use Rattle.soda_io.specs.declared.error.IoErr.{IoErr}
 use Rattle.soda_io.specs.Store.{Store, Creates, KeepsBytes, KeepsIds, Opens, content, left}
@@ -7,7 +7,7 @@ use Rattle.whole_files.specs.Writing.{WritesWhole}
 use Rattle.soda_ir.specs.Program.{PlainProgram, cells_at}
 use Rattle.job_parts.specs.Cells.{AreCells}
 use Rattle.sodac_cli.specs.Job.{PlainJob}
-use Rattle.sodac_cli.specs.Meaning.{HasProgram, HasUnbuiltInput, Holding, IsBegun, IsFine, IsFront, IsTextOver, IsUnbuiltJob, input, Leaves, most_cells, output_text, text_of}
+use Rattle.sodac_cli.specs.Meaning.{HasProgram, Holding, IsBegun, IsFine, IsTextOver, IsUnbuiltJob, input, Leaves, most_cells, output_text}
 use Rattle.sodac_cli.proofs.Running.{cells_short}
 
 there : (old : Option (List ℕ)) → (old ≡ None → ⊥) → (x : List ℕ) × (old ≡ Some x)
@@ -36,10 +36,10 @@ module _ (g m : ℕ) (s0 s1 s2 : Store) (j : PlainJob) (i k : ℕ) (o : Opens g 
 
   -- the output is created, and empty
   module _ (s3 : Store) (keeps : KeepsBytes s2 s3) where
-    pub created_leaves : Leaves s0.bytes s3.bytes j
+    pub created_leaves : Leaves s0 s3 j
     created_leaves = record {
       others = λ n ne. keeps n ∙ cr.emptied.others n ne ∙ o.bytes n;
-      output = inr ([], keeps j.output ∙ cr.emptied.own, inl refl);
+      output = λ es calls. inr ([], keeps j.output ∙ cr.emptied.own, inl refl);
     }
 
     module _ (n : ℕ) (more : n ≡ m + 1) (ids : KeepsIds n s2 s3) (p : ℕ) (s4 : Store) (bytes : List ℕ) where
@@ -53,18 +53,14 @@ module _ (g m : ℕ) (s0 s1 s2 : Store) (j : PlainJob) (i k : ℕ) (o : Opens g 
       wrote_own r w =
           ap (λ (n : List ℕ). s4.bytes n) (sym output_name) ∙ w.own [] (ap (λ (n : List ℕ). s3.bytes n) output_name ∙ keeps j.output ∙ cr.emptied.own)
 
-      pub wrote_leaves : (f : IsFine s0.bytes j) → bytes ≡ output_text j f.begun.plain f.cells → (r : Result (Unit {0}) IoErr) → WritesWhole p s3 s4 k bytes r → Leaves s0.bytes s4.bytes j
+      pub wrote_leaves : (f : IsFine s0.bytes j) → bytes ≡ output_text j f.begun.plain f.cells → (r : Result (Unit {0}) IoErr) → WritesWhole p s3 s4 k bytes r → Leaves s0 s4 j
       wrote_leaves f is r w = record {
         others = wrote_others r w;
-        output = inr (take w.count bytes, wrote_own r w, inr (f, w.count, ap (take w.count) is));
+        output = λ es calls. inr (take w.count bytes, wrote_own r w, inr (f, w.count, ap (take w.count) is));
       }
 
       pub wrote_all : (u : Unit {0}) → WritesWhole p s3 s4 k bytes (Ok u) → s4.bytes j.output ≡ Some bytes
       wrote_all u w = wrote_own (Ok u) w ∙ ap (λ (xs : List ℕ). Some xs) (take_all w.count bytes (omega (arith, w.all)))
-
--- a file that is opened and can't be used leaves all names
-pub opened_leaves : (s0 s3 : Store) (j : PlainJob) → KeepsBytes s0 s3 → Leaves s0.bytes s3.bytes j
-opened_leaves s0 s3 j keeps = record { others = λ n ne. keeps n; output = inl (keeps j.output) }
 
 module _ (h : Holding) (j : PlainJob) (q : PlainProgram) (program : HasProgram h j q) (small : cells_at q j.rows ≤ most_cells) (bytes : List ℕ) (is : h j.input ≡ Some bytes) where
   abbrev pub begun : IsBegun h j

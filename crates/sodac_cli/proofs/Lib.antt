@@ -5,4 +5,5 @@ pub mod Begun
 pub mod Contents
 pub mod Behind
 pub mod Causes
+pub mod Uncreated
 pub mod Asked

@@ -1,5 +1,5 @@
 -- The journal of a file that is opened and read whole.
-use Rattle.std.proofs.Common.{◌≡◌, ◌≢◌, ◌≤◌, ◌+◌, ℕ, Bool, true, List, [], ◌∷◌, ◌++◌, Option, Result, Ok, Err, refl, sym, ap, subst, ◌∙◌, arith, inl, inr}
+use Rattle.std.proofs.Common.{◌≡◌, ◌+◌, ℕ, true, List, [], ◌∷◌, ◌++◌, Option, Result, Ok, Err, ap, subst, ◌∙◌, arith, inl, inr}
 use Rattle.std.specs.Global.{Global}
 use Rattle.std.specs.declared.vec.Vec.{Vec}
 use Rattle.soda_io.specs.Store.{Store, Opens}
@@ -7,8 +7,8 @@ use Rattle.whole_files.specs.Journal.{gots}
 use Rattle.whole_files.specs.declared.reading.ReadFail.{ReadFail}
 use Rattle.whole_files.specs.declared.reading.ReadFail.TheVariants as fail
 use Rattle.whole_files.specs.Reading.{ReadsWhole, items_of}
-use Rattle.sodac_cli.specs.Journal.{Broken, Clean, IsAtEnd}
-use Rattle.sodac_cli.specs.Stages.{OnlyReads, ReadLog, TextLog}
+use Rattle.sodac_cli.specs.Journal.{IsAtEnd}
+use Rattle.sodac_cli.specs.Stages.{ReadLog, TextLog}
 use Rattle.sodac_cli.proofs.Logs.{OneLog, QuietLog, gots-append, opened, read_failed, read_long_log, read_memory_log, read_whole_log, then_broken, then_clean}
 
 module _ (g m most : ℕ) (a b c : Store) (name : List ℕ) where

@@ -17,6 +17,15 @@ makings (Create name id ∷ es) = (false, name) ∷ makings es
 makings (Read id asked got ∷ es) = makings es
 makings (Write id given taken ∷ es) = makings es
 
+-- the names that were created, in order
+abbrev pub creates : List FileCall → List (List ℕ)
+creates [] = []
+creates (Create name (Some id) ∷ es) = name ∷ creates es
+creates (Create name None ∷ es) = creates es
+creates (Open name id ∷ es) = creates es
+creates (Read id asked got ∷ es) = creates es
+creates (Write id given taken ∷ es) = creates es
+
 -- a call that didn't fail, by an id that was given in this call of the job: ids below `given` are left alone
 abbrev pub IsGood : ℕ → FileCall → Type 0
 IsGood given (Open name (Some id)) = given ≤ id

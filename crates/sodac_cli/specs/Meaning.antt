@@ -1,9 +1,9 @@
 -- What a job of the mode `plain` means: its arrays, which refusal comes first, and what is left behind.
-use Rattle.std.specs.Prelude.{◌≡◌, ◌≢◌, ◌⊎◌, ℕ, zero, suc, ◌*◌, ◌<◌, ◌≤◌, ◌^◌, List, [], ◌∷◌, ◌++◌, take, Option, Some, codes, String, ℤ, slice_index_or}
+use Rattle.std.specs.Prelude.{◌≡◌, ◌≢◌, ◌⊎◌, ℕ, zero, suc, ◌<◌, ◌≤◌, List, [], ◌∷◌, ◌++◌, take, Option, Some, codes, String, ℤ, slice_index_or}
 use Rattle.std.specs.Global.{Global}
 use Rattle.soda_io.specs.Cause.{Rose}
 use Rattle.soda_io.specs.Store.{Store, KeepsBytes}
-use Rattle.soda_io.specs.declared.role.FileRole.{FileRole}
+use Rattle.soda_io.specs.declared.call.FileCall.{FileCall}
 use Rattle.soda_io.specs.declared.role.FileRole.TheVariants.{Program, Modules, Params, Stall, Input, Output}
 use Rattle.soda_ir.specs.Program.{PlainProgram, cells_at, defined_arrays}
 use Rattle.job_parts.specs.Cells.{AreCells, array_text, run_of}
@@ -11,7 +11,8 @@ use Rattle.job_parts.specs.SumText.{Accepts}
 use Rattle.job_parts.specs.Words.{TakesWords, word}
 use Rattle.sodac_cli.specs.declared.status.Status.{Status}
 use Rattle.sodac_cli.specs.declared.status.Status.TheVariants as is
-use Rattle.sodac_cli.specs.Job.{AsksFor, PlainJob}
+use Rattle.sodac_cli.specs.Job.{PlainJob}
+use Rattle.sodac_cli.specs.Journal.{creates}
 
 -- what each name holds
 abbrev pub Holding : Type 0
@@ -83,7 +84,8 @@ pub data IsUnbuiltJob (s : Holding) (j : PlainJob) : Type 0 where
   rows : HasUnbuiltRows s j → IsUnbuiltJob s j
   input : HasUnbuiltInput s j → IsUnbuiltJob s j
 
--- what the files say of a status: its own cause, and what makes each refusal before it not hold
+-- What the files say of a status. At Ok all is well, and the output holds the bytes of its array. `NotYetBuilt` has its
+-- cause. A fault of an input or an output comes only where the program is accepted and keeps the limit.
 abbrev pub Tells : Holding → Holding → PlainJob → Status → Type 0
 Tells old new j is.Ok = (f : IsFine old j) × (new j.output ≡ Some (output_text j f.begun.plain f.cells))
 Tells old new j is.NotYetBuilt = IsUnbuiltJob old j
@@ -100,10 +102,12 @@ Tells old new j is.Memory = Unit {0}
 abbrev pub IsFront : Holding → PlainJob → List ℕ → Type 0
 IsFront old j bytes = (bytes ≡ []) ⊎ ((f : IsFine old j) × (n : ℕ) × (bytes ≡ take n (output_text j f.begun.plain f.cells)))
 
--- no name but the output's changes, and that only if it was created; then it holds a front of its bytes
-pub record Leaves (old new : Holding) (j : PlainJob) : Type 0 where
-  pub others : (n : List ℕ) → n ≢ j.output → new n ≡ old n
-  pub output : (new j.output ≡ old j.output) ⊎ ((bytes : List ℕ) × (new j.output ≡ Some bytes) × IsFront old j bytes)
+-- No name but the output's changes. The output keeps its bytes where no file was created; where it was, it holds a front
+-- of the bytes of its array.
+pub record Leaves (old new : Store) (j : PlainJob) : Type 0 where
+  pub others : (n : List ℕ) → n ≢ j.output → new.bytes n ≡ old.bytes n
+  pub output : (entries : List FileCall) → new.calls ≡ old.calls ++ entries
+      → ((new.bytes j.output ≡ old.bytes j.output) × (creates entries ≡ [])) ⊎ ((bytes : List ℕ) × (new.bytes j.output ≡ Some bytes) × IsFront old.bytes j bytes)
 
 -- what has to hold before the k-th file is asked for: the program's text was read and accepted, and the limit kept
 abbrev pub Before : Holding → PlainJob → ℕ → Type 0

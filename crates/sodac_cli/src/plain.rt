@@ -15,7 +15,7 @@ pub(crate) fn plain<F: Files>(alloc: Global, job: &PlainWords, files: &mut F) ->
     requires { job.now.output.now ≢ job.now.input.now }
     ensures begun { IsAfterWords result }
     ensures asks { F.tells → Asks (F.given files.old) (F.store files.old) (F.store files.new) (job_files (job_of job.now)) (Before (F.store files.old).bytes (job_of job.now)) result }
-    ensures leaves { F.tells → Leaves (F.store files.old).bytes (F.store files.new).bytes (job_of job.now) }
+    ensures leaves { F.tells → Leaves (F.store files.old) (F.store files.new) (job_of job.now) }
     ensures tells { F.tells → Tells (F.store files.old).bytes (F.store files.new).bytes (job_of job.now) result }
     ensures faults { Faults (F.faults files.old) (F.faults files.new) result }
 {

@@ -92,7 +92,7 @@ pub(crate) fn run<F: Files>(
     requires program { F.tells → HasProgram (F.store files.old).bytes (job_of job.now) (plain program.now) }
     ensures begun { IsAfterWords result }
     ensures asks { F.tells → Asks (F.given files.old) (F.store files.old) (F.store files.new) (array_files job.now.input.now job.now.output.now) (λ k. Unit {0}) result }
-    ensures leaves { F.tells → Leaves (F.store files.old).bytes (F.store files.new).bytes (job_of job.now) }
+    ensures leaves { F.tells → Leaves (F.store files.old) (F.store files.new) (job_of job.now) }
     ensures tells { F.tells → Tells (F.store files.old).bytes (F.store files.new).bytes (job_of job.now) result }
     ensures faults { Faults (F.faults files.old) (F.faults files.new) result }
 {

@@ -20,7 +20,7 @@ fn job<F: Files>(alloc: Global, words: &[String], files: &mut F) -> Status
     ensures untouched { (¬ TakesWords words.now) ⊎ HasUnbuiltMode words.now → F.tells → Untouched (F.store files.old) (F.store files.new) }
     ensures refused { HasUnbuiltMode words.now → IsRefused result }
     ensures asks { (j : PlainJob) → AsksFor words.now j → F.tells → Asks (F.given files.old) (F.store files.old) (F.store files.new) (job_files j) (Before (F.store files.old).bytes j) result }
-    ensures leaves { (j : PlainJob) → AsksFor words.now j → F.tells → Leaves (F.store files.old).bytes (F.store files.new).bytes j }
+    ensures leaves { (j : PlainJob) → AsksFor words.now j → F.tells → Leaves (F.store files.old) (F.store files.new) j }
     ensures tells { (j : PlainJob) → AsksFor words.now j → F.tells → Tells (F.store files.old).bytes (F.store files.new).bytes j result }
     ensures faults { Faults (F.faults files.old) (F.faults files.new) result }
 {
@@ -46,15 +46,16 @@ pub fn execute<F: Files, S: Sink, E: Sink>(
 ) -> Status
     // `Usage` comes exactly where the words aren't taken, want of memory aside.
     ensures words { WordsSay words.now result }
-    // Where they aren't, or name a mode that isn't built, no file is asked for.
+    // Where they aren't, or name a mode that isn't built, the journal gets no entry and no name changes.
     ensures untouched { (¬ TakesWords words.now) ⊎ HasUnbuiltMode words.now → F.tells → Untouched (F.store files.old) (F.store files.new) }
     // A mode that isn't built is refused as such, want of memory aside.
     ensures refused { HasUnbuiltMode words.now → IsRefused result }
     // What is asked of the files, by the journal of calls, and which fault it ends with.
     ensures asks { (j : PlainJob) → AsksFor words.now j → F.tells → Asks (F.given files.old) (F.store files.old) (F.store files.new) (job_files j) (Before (F.store files.old).bytes j) result }
-    // No name but the output's changes, and a created output holds a front of its bytes.
-    ensures leaves { (j : PlainJob) → AsksFor words.now j → F.tells → Leaves (F.store files.old).bytes (F.store files.new).bytes j }
-    // Each status has its cause, and none before it holds; at Ok the output holds the text of the defined array.
+    // No name but the output's changes, and that only if it was created; then it holds a front of its bytes.
+    ensures leaves { (j : PlainJob) → AsksFor words.now j → F.tells → Leaves (F.store files.old) (F.store files.new) j }
+    // At Ok all is well, and the output holds the text of the defined array. `NotYetBuilt` has its cause, and a fault of the
+    // input or the output comes only once the program is accepted and keeps the limit.
     ensures tells { (j : PlainJob) → AsksFor words.now j → F.tells → Tells (F.store files.old).bytes (F.store files.new).bytes j result }
     // No fault is passed over, and each has its count.
     ensures faults { Faults (F.faults files.old) (F.faults files.new) result }

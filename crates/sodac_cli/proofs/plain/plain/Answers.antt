@@ -1,9 +1,10 @@
-use Rattle.std.proofs.Common.{◌≡◌, ◌<◌, arith, Some, ap, sym, subst, ◌∙◌, List, ℕ}
+use Rattle.std.proofs.Common.{◌<◌, arith, Some, ap, sym, subst, ◌∙◌, List, ℕ}
 use Rattle.soda_ir.specs.Program.{cells_at, plain}
 use Rattle.sodac_cli.specs.Job.{job_of}
-use Rattle.sodac_cli.specs.Meaning.{Holding, IsBegun, Leaves, Tells, most_cells}
+use Rattle.sodac_cli.specs.Meaning.{Holding, IsBegun, Tells, most_cells}
 use Rattle.sodac_cli.proofs.Behind.{asks_behind, long_asks, long_not_begun, many_not_begun, memory_first, program_failed_asks, program_memory_asks, same_holding, too_long, unbuilt_first, unbuilt_not_begun, unbuilt_text}
 use Rattle.sodac_cli.proofs.Running.{rows_are}
+use Rattle.sodac_cli.proofs.Uncreated.{leaves_behind, read_leaves, text_leaves}
 use Rattle.sodac_cli.proofs.plain.plain.Goals as goal
 
 pub returns-in-Err-TooLong-clause-asks : goal.returns-in-Err-TooLong-clause-asks
@@ -50,10 +51,27 @@ returns-clause-asks g c = λ told.
     } in
     asks_behind _ _ _ (job_of c.args.job.now) _ _ c.in-Ok.ensures.given begun (c.in-Ok.ensures.log told).0 (c.in-Ok.ensures.log told).1 c.run.result c.run.ensures.begun (c.run.ensures.asks told)
 
+pub returns-in-Err-TooLong-clause-leaves : goal.returns-in-Err-TooLong-clause-leaves
+returns-in-Err-TooLong-clause-leaves g c = λ told. text_leaves _ _ (job_of c.args.job.now) (c.in-Err-TooLong.ensures.keeps told) _ c.in-Err-TooLong.field-0 (c.in-Err-TooLong.ensures.log told)
+
+pub returns-in-Err-Failed-clause-leaves : goal.returns-in-Err-Failed-clause-leaves
+returns-in-Err-Failed-clause-leaves g c = λ told. text_leaves _ _ (job_of c.args.job.now) (c.in-Err-Failed.ensures.keeps told) _ c.in-Err-Failed.field-0 (c.in-Err-Failed.ensures.log told)
+
+pub returns-in-Err-Memory-clause-leaves : goal.returns-in-Err-Memory-clause-leaves
+returns-in-Err-Memory-clause-leaves g c = λ told. text_leaves _ _ (job_of c.args.job.now) (c.in-Err-Memory.ensures.keeps told) _ c.in-Err-Memory.field-0 (c.in-Err-Memory.ensures.log told)
+
+pub returns-in-Ok-None-clause-leaves : goal.returns-in-Ok-None-clause-leaves
+returns-in-Ok-None-clause-leaves g c = λ told. read_leaves _ _ (job_of c.args.job.now) (c.in-Ok.ensures.keeps told) _ (c.in-Ok.ensures.log told).0
+
+pub returns-in-Err-clause-leaves : goal.returns-in-Err-clause-leaves
+returns-in-Err-clause-leaves g c = λ told. read_leaves _ _ (job_of c.args.job.now) (c.in-Ok.ensures.keeps told) _ (c.in-Ok.ensures.log told).0
+
+pub returns-then-job-gt-MOST_CELLS-clause-leaves : goal.returns-then-job-gt-MOST_CELLS-clause-leaves
+returns-then-job-gt-MOST_CELLS-clause-leaves g c = λ told. read_leaves _ _ (job_of c.args.job.now) (c.in-Ok.ensures.keeps told) _ (c.in-Ok.ensures.log told).0
+
 pub returns-clause-leaves : goal.returns-clause-leaves
 returns-clause-leaves g c = λ told.
-    let P : Holding → Type 0 = λ h. Leaves h (g.F.Files.store c.run.new.files).bytes (job_of c.args.job.now) in
-    subst P (same_holding (g.F.Files.store c.args.files.now) (g.F.Files.store c.read_text.new.files) (c.in-Ok.ensures.keeps told)) (c.run.ensures.leaves told)
+    leaves_behind _ _ (g.F.Files.store c.args.files.now) (g.F.Files.store c.read_text.new.files) (g.F.Files.store c.run.new.files) (job_of c.args.job.now) (c.in-Ok.ensures.keeps told) (c.in-Ok.ensures.log told).0 _ _ c.run.result (c.run.ensures.asks told) (c.run.ensures.leaves told)
 
 pub returns-clause-tells : goal.returns-clause-tells
 returns-clause-tells g c = λ told.

@@ -1,8 +1,7 @@
-use Rattle.std.proofs.Common.{◌≡◌, ◌<◌, ◌∷◌, [], List, ℕ, ℤ, length, slice_index_or, ap, sym, ◌∙◌, arith, subst, Ok, Err, IfOk, Result}
-use Rattle.std.specs.Global.{Global}
-use Rattle.soda_ir.specs.Program.{cells_at, defined_arrays, plain}
+use Rattle.std.proofs.Common.{◌≡◌, List, ℕ, length, ap, ◌∙◌, arith, subst, IfOk}
+use Rattle.soda_ir.specs.Program.{plain}
 use Rattle.job_parts.specs.Cells.{array_text}
-use Rattle.sodac_cli.proofs.Running.{array_is, array_length, inputs_there, no_params, one_a_line, one_array, text_is}
+use Rattle.sodac_cli.proofs.Running.{array_is, array_length, inputs_there, no_params, one_array, text_is}
 use Rattle.sodac_cli.proofs.run.output_text.Goals as goal
 
 pub plain_run-requires-clause-inputs : goal.plain_run-requires-clause-inputs

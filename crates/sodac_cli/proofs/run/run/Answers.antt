@@ -1,10 +1,11 @@
-use Rattle.std.proofs.Common.{◌≡◌, ◌<◌, ◌*◌, List, ℕ, length, Some, None, Err, ap, sym, subst, ◌∙◌}
+use Rattle.std.proofs.Common.{◌≡◌, ◌<◌, ◌*◌, List, ℕ, length, Some, Err, ap, sym, subst, ◌∙◌}
 use Rattle.whole_files.specs.declared.reading.ReadFail.{ReadFail}
 use Rattle.soda_ir.specs.Program.{cells_at, plain}
 use Rattle.sodac_cli.specs.Job.{job_of}
 use Rattle.sodac_cli.proofs.Begun.{create_failed_asks, create_memory_asks, memory_asks, open_failed_asks, open_memory_asks, read_failed_asks, read_log, read_memory_asks, too_long_asks, unbuilt_asks, write_failed_asks, write_memory_asks, wrote_asks}
 use Rattle.sodac_cli.proofs.Contents.{created_leaves, fine, input_left, not_cells, opened_there, too_many, wrote_all, wrote_leaves}
 use Rattle.sodac_cli.proofs.Running.{rows_are}
+use Rattle.sodac_cli.proofs.Uncreated.{uncreated_leaves, unopened_leaves}
 use Rattle.sodac_cli.proofs.run.run.Goals as goal
 
 pub returns-in-Err-Failed-clause-asks : goal.returns-in-Err-Failed-clause-asks
@@ -137,3 +138,15 @@ returns-in-Ok-write_whole-clause-tells g c = λ told.
     let f = fine _ (job_of c.args.job.now) (plain c.args.program.now) (c.requires.program told) c.requires.small c.deref.result.now is c.in-Ok-Some.text.items found in
     let text = c.deref-2.ensures.value ∙ found.text in
     (f, wrote_all _ _ _ _ _ (job_of c.args.job.now) _ _ (c.in-Ok.ensures.store told) c.in-Ok.ensures.id.0 c.in-Ok.ensures.id.1 (c.in-Ok-create.ensures.store told) c.in-Ok-create.ensures.id.0 c.requires.apart _ (c.in-Ok-read_whole.ensures.store told).bytes _ (c.in-Ok-create.ensures.id.1) (c.in-Ok-read_whole.ensures.store told).ids _ _ _ c.in-Ok-write_whole.field-0 (c.in-Ok-write_whole.ensures.store told) ∙ ap (λ (xs : List ℕ). Some xs) text)
+
+pub returns-in-Err-Failed-clause-leaves : goal.returns-in-Err-Failed-clause-leaves
+returns-in-Err-Failed-clause-leaves g c = λ told. unopened_leaves _ _ _ (job_of c.args.job.now) c.in-Err-Failed.field-0 (c.in-Err-Failed.ensures.store told)
+
+pub returns-in-Err-Memory-clause-leaves : goal.returns-in-Err-Memory-clause-leaves
+returns-in-Err-Memory-clause-leaves g c = λ told. unopened_leaves _ _ _ (job_of c.args.job.now) c.in-Err-Memory.field-0 (c.in-Err-Memory.ensures.store told)
+
+pub returns-in-Err-Failed-create-clause-leaves : goal.returns-in-Err-Failed-create-clause-leaves
+returns-in-Err-Failed-create-clause-leaves g c = λ told. uncreated_leaves _ _ _ _ _ _ (job_of c.args.job.now) (c.in-Ok.ensures.store told) c.in-Ok.ensures.id.0 c.in-Err-Failed-create.field-0 (c.in-Err-Failed-create.ensures.store told)
+
+pub returns-in-Err-Memory-create-clause-leaves : goal.returns-in-Err-Memory-create-clause-leaves
+returns-in-Err-Memory-create-clause-leaves g c = λ told. uncreated_leaves _ _ _ _ _ _ (job_of c.args.job.now) (c.in-Ok.ensures.store told) c.in-Ok.ensures.id.0 c.in-Err-Memory-create.field-0 (c.in-Err-Memory-create.ensures.store told)

@@ -1,4 +1,4 @@
-use Rattle.std.proofs.Common.{◌≡◌, ◌∙◌, inl, inr}
+use Rattle.std.proofs.Common.{◌∙◌, inl, inr}
 use Rattle.sodac_cli.proofs.Behind.{complete, refused}
 use Rattle.sodac_cli.proofs.Causes.{exclude}
 use Rattle.sodac_cli.proofs.top.execute.Goals as goal

@@ -1,4 +1,4 @@
-use Rattle.std.proofs.Common.{◌≡◌, ◌<◌, ◌^◌, subst, rules}
+use Rattle.std.proofs.Common.{◌<◌, ◌^◌, subst, rules}
 use Rattle.sodac_cli.specs.Job.{PlainJob, job_files, job_of}
 use Rattle.sodac_cli.specs.Journal.{Asks}
 use Rattle.sodac_cli.specs.Meaning.{Before, Leaves, Tells}
@@ -14,7 +14,7 @@ returns-in-Plain-clause-asks g c = λ j a told.
 pub returns-in-Plain-clause-leaves : goal.returns-in-Plain-clause-leaves
 returns-in-Plain-clause-leaves g c = λ j a told.
     let small : c.in-Plain.words.rows < 2 ^ 64 = search rules in
-    let P : PlainJob → Type 0 = λ i. Leaves (g.F.Files.store c.args.files.now).bytes (g.F.Files.store c.plain.new.files).bytes i in
+    let P : PlainJob → Type 0 = λ i. Leaves (g.F.Files.store c.args.files.now) (g.F.Files.store c.plain.new.files) i in
     subst P (same_job c.args.words.now (job_of c.in-Plain.words) j small c.in-Plain.ensures.2 a) (c.plain.ensures.leaves told)
 
 pub returns-in-Plain-clause-tells : goal.returns-in-Plain-clause-tells
