@@ -20,34 +20,37 @@ fn told(words: &Words) -> &'static str {
     }
 }
 
-const LINES: [(&str, &str); 22] = [
-    ("sodac plain p.soda 5 in.txt out.txt", "plain"),
-    ("sodac plain p 0 in out", "plain"),
-    ("sodac plain p 18446744073709551615 in out", "plain"),
-    ("sodac plain both 5 both out", "plain"),
-    ("sodac", "untaken"),
-    ("sodac help", "untaken"),
-    ("sodac Plain p 5 in out", "untaken"),
-    ("sodac threads p 5 in out", "untaken"),
-    ("sodac --share check p", "untaken"),
-    ("sodac plain", "untaken"),
-    ("sodac plain p 5 in", "untaken"),
-    ("sodac plain p 5 in out more", "untaken"),
-    ("sodac plain p 05 in out", "untaken"),
-    ("sodac plain p 5x in out", "untaken"),
-    ("sodac plain p 18446744073709551616 in out", "untaken"),
-    ("sodac plain p 5 in p", "untaken"),
-    ("sodac plain p 5 in in", "untaken"),
-    ("sodac check", "unbuilt"),
-    ("sodac plan --share p", "unbuilt"),
-    ("sodac compile p p", "unbuilt"),
-    ("sodac sim p 5 in out", "unbuilt"),
-    ("sodac selftest 0", "unbuilt"),
-];
+// Lines of words, and what is told of them.
+fn lines() -> [(&'static str, &'static str); 22] {
+    [
+        ("sodac plain p.soda 5 in.txt out.txt", "plain"),
+        ("sodac plain p 0 in out", "plain"),
+        ("sodac plain p 18446744073709551615 in out", "plain"),
+        ("sodac plain both 5 both out", "plain"),
+        ("sodac", "untaken"),
+        ("sodac help", "untaken"),
+        ("sodac Plain p 5 in out", "untaken"),
+        ("sodac threads p 5 in out", "untaken"),
+        ("sodac --share check p", "untaken"),
+        ("sodac plain", "untaken"),
+        ("sodac plain p 5 in", "untaken"),
+        ("sodac plain p 5 in out more", "untaken"),
+        ("sodac plain p 05 in out", "untaken"),
+        ("sodac plain p 5x in out", "untaken"),
+        ("sodac plain p 18446744073709551616 in out", "untaken"),
+        ("sodac plain p 5 in p", "untaken"),
+        ("sodac plain p 5 in in", "untaken"),
+        ("sodac check", "unbuilt"),
+        ("sodac plan --share p", "unbuilt"),
+        ("sodac compile p p", "unbuilt"),
+        ("sodac sim p 5 in out", "unbuilt"),
+        ("sodac selftest 0", "unbuilt"),
+    ]
+}
 
 #[test]
 fn words_of_lines(rt: HostRuntime) -> Result<(), Fail> {
-    for (line, want) in LINES {
+    for (line, want) in lines() {
         let words = words(rt.alloc(), line)?;
         assert_eq!(rt; told(&read_words(&words)), want, "{line}");
     }
@@ -74,56 +77,63 @@ fn text(alloc: Global, fields: &Fields) -> Result<Vec<u8>, NoMemory> {
     Ok(text.into_bytes())
 }
 
-const SUM3: Fields = ["sum3", "8", "1", "a(*)", "o(0)", "a(-1) + a(0) + a(1)"];
+fn sum3() -> Fields {
+    ["sum3", "8", "1", "a(*)", "o(0)", "a(-1) + a(0) + a(1)"]
+}
 
-const ACCEPTED: [Fields; 4] = [
-    SUM3,
+fn accepted() -> [Fields; 4] {
     [
-        "_",
-        "8192",
-        "64",
-        "input(*)",
-        "int(0)",
-        "input(-32768) - input(32768)",
-    ],
-    ["abs", "16", "2", "a(*)", "aa(0)", "a(-0)"],
-    ["k9", "8", "1", "b(*)", "k9(0)", "b(9) - b(10) + b(9)"],
-];
+        sum3(),
+        [
+            "_",
+            "8192",
+            "64",
+            "input(*)",
+            "int(0)",
+            "input(-32768) - input(32768)",
+        ],
+        ["abs", "16", "2", "a(*)", "aa(0)", "a(-0)"],
+        ["k9", "8", "1", "b(*)", "k9(0)", "b(9) - b(10) + b(9)"],
+    ]
+}
 
-const REFUSED: [Fields; 27] = [
-    [" sum3", "8", "1", "a(*)", "o(0)", "a(0)"],
-    ["3sum", "8", "1", "a(*)", "o(0)", "a(0)"],
-    ["k", "12", "1", "a(*)", "o(0)", "a(0)"],
-    ["k", "0", "1", "a(*)", "o(0)", "a(0)"],
-    ["k", "08", "1", "a(*)", "o(0)", "a(0)"],
-    ["k", "8200", "1", "a(*)", "o(0)", "a(0)"],
-    ["k", "8 ", "1", "a(*)", "o(0)", "a(0)"],
-    ["k", "8", "0", "a(*)", "o(0)", "a(0)"],
-    ["k", "8", "65", "a(*)", "o(0)", "a(0)"],
-    ["k", "8", "1", "abs(*)", "o(0)", "abs(0)"],
-    ["k", "8", "1", "a(*)", "uint8(0)", "a(0)"],
-    ["k", "8", "1", "a(*)", "a(0)", "a(0)"],
-    ["k", "8", "1", "a(3, *)", "o(0)", "a(0)"],
-    ["k", "8", "1", "a(*)", "o(1)", "a(0)"],
-    ["k", "8", "1", "a(*)", "o(0)", ""],
-    ["k", "8", "1", "a(*)", "o(0)", "b(0)"],
-    ["k", "8", "1", "a(*)", "o(0)", "-a(0)"],
-    ["k", "8", "1", "a(*)", "o(0)", "a(00)"],
-    ["k", "8", "1", "a(*)", "o(0)", "a(+1)"],
-    ["k", "8", "1", "a(*)", "o(0)", "a(- 1)"],
-    ["k", "8", "1", "a(*)", "o(0)", "a(32769)"],
-    ["k", "8", "1", "a(*)", "o(0)", "a(-32769)"],
-    ["k", "8", "1", "a(*)", "o(0)", "a(0)+ a(1)"],
-    ["k", "8", "1", "a(*)", "o(0)", "a(0)  + a(1)"],
-    ["k", "8", "1", "a(*)", "o(0)", "a(0) * a(1)"],
-    ["k", "8", "1", "a(*)", "o(0)", "a(0) + "],
-    ["k", "8", "1", "a(*)", "o(0)", "a(0)\n"],
-];
+// The number of a field, and what may not stand there.
+fn wrong_fields() -> [(usize, &'static str); 27] {
+    [
+        (0, " sum3"),
+        (0, "3sum"),
+        (1, "12"),
+        (1, "0"),
+        (1, "08"),
+        (1, "8200"),
+        (1, "8 "),
+        (2, "0"),
+        (2, "65"),
+        (3, "b(*)"),
+        (3, "a(3, *)"),
+        (4, "uint8(0)"),
+        (4, "a(0)"),
+        (4, "o(1)"),
+        (5, ""),
+        (5, "b(0)"),
+        (5, "-a(0)"),
+        (5, "a(00)"),
+        (5, "a(+1)"),
+        (5, "a(- 1)"),
+        (5, "a(32769)"),
+        (5, "a(-32769)"),
+        (5, "a(0)+ a(1)"),
+        (5, "a(0)  + a(1)"),
+        (5, "a(0) * a(1)"),
+        (5, "a(0) + "),
+        (5, "a(0)\n"),
+    ]
+}
 
 #[test]
 fn program_texts(rt: HostRuntime) -> Result<(), Fail> {
     let alloc = rt.alloc();
-    for fields in ACCEPTED {
+    for fields in accepted() {
         let text = text(alloc, &fields)?;
         assert!(rt; read_program(alloc, &text)?.is_some(), "{fields:?}");
         let cut = text.as_slice().split_last().map(|(_, front)| front);
@@ -132,7 +142,10 @@ fn program_texts(rt: HostRuntime) -> Result<(), Fail> {
             "{fields:?}"
         );
     }
-    for fields in REFUSED {
+    for (field, wrong) in wrong_fields() {
+        assert!(rt; field < 6);
+        let mut fields = ["k", "8", "1", "a(*)", "o(0)", "a(0)"];
+        fields[field] = wrong;
         let text = text(alloc, &fields)?;
         assert!(rt; read_program(alloc, &text)?.is_none(), "{fields:?}");
     }
@@ -142,7 +155,7 @@ fn program_texts(rt: HostRuntime) -> Result<(), Fail> {
 #[test]
 fn parts_of_a_text(rt: HostRuntime) -> Result<(), Fail> {
     let alloc = rt.alloc();
-    let text = text(alloc, &SUM3)?;
+    let text = text(alloc, &sum3())?;
     let program = read_program(alloc, &text)?.ok_or("refused")?;
     let parts = program.parts();
     assert_eq!(rt; parts.kernel.as_slice(), b"sum3".as_slice());
@@ -182,28 +195,31 @@ fn long_sums(rt: HostRuntime) -> Result<(), Fail> {
     Ok(())
 }
 
-const INPUTS: [(&str, u64, bool); 12] = [
-    ("1\n2\n4\n8\n16\n", 5, true),
-    ("0\n255\n", 2, true),
-    ("", 0, true),
-    ("1\n2", 2, false),
-    ("1\n256\n", 2, false),
-    ("1\n", 2, false),
-    ("1\n2\n3\n", 2, false),
-    ("1\n02\n", 2, false),
-    ("1 2\n", 2, false),
-    ("1\n\n", 1, false),
-    ("-1\n", 1, false),
-    ("1\n", 18446744073709551615, false),
-];
+fn inputs() -> [(&'static str, u64, bool); 12] {
+    [
+        ("1\n2\n4\n8\n16\n", 5, true),
+        ("0\n255\n", 2, true),
+        ("", 0, true),
+        ("1\n2", 2, false),
+        ("1\n256\n", 2, false),
+        ("1\n", 2, false),
+        ("1\n2\n3\n", 2, false),
+        ("1\n02\n", 2, false),
+        ("1 2\n", 2, false),
+        ("1\n\n", 1, false),
+        ("-1\n", 1, false),
+        ("1\n", 18446744073709551615, false),
+    ]
+}
 
 #[test]
 fn cells_of_inputs(rt: HostRuntime) -> Result<(), Fail> {
     let alloc = rt.alloc();
-    for (text, count, good) in INPUTS {
+    for (text, count, good) in inputs() {
         let found = read_cells(alloc, text.as_bytes(), count)?;
         assert_eq!(rt; found.is_some(), good, "{text:?} for {count} cells");
         if let Some(cells) = found {
+            assert!(rt; cells.len() < 100);
             let again = array_text(alloc, cells.as_slice(), 1)?;
             assert_eq!(rt; again.as_slice(), text.as_bytes());
         }
