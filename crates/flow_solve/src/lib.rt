@@ -16,4 +16,6 @@ pub use solver::solve;
 pub use walks::longest;
 
 #[cfg(test)]
+mod small_nets;
+#[cfg(test)]
 mod tests;
