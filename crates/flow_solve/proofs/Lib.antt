@@ -3,3 +3,9 @@ pub mod RoundLemmas
 pub mod PartLemmas
 pub mod TraceLemmas
 pub mod SearchLemmas
+pub mod Slack
+pub mod Potential
+pub mod PlanLemmas
+pub mod ConserveLemmas
+pub mod MoveLemmas
+pub mod StartLemmas

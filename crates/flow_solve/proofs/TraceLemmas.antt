@@ -1,11 +1,11 @@
 -- Walks traced back through rounds, and the closed part of a walk that comes to a node twice.
-use Rattle.std.proofs.Common.{◌≡◌, ℕ, zero, suc, ◌+◌, ◌<◌, ◌≤◌, List, [], ◌∷◌, ◌++◌, length, reverse, take, drop, get_or, set, replicate, Option, Some, None, ℤ, ◌+ℤ◌, ◌<ℤ◌, refl, sym, subst, ◌∙◌, ap, arith, length-append, length-drop, length-set, get_or-set_same, get_or-set_other, ⊎_elim, add-one}
+use Rattle.std.proofs.Common.{◌≡◌, ℕ, zero, suc, ◌+◌, ◌<◌, ◌≤◌, List, [], ◌∷◌, ◌++◌, length, reverse, take, drop, get_or, set, replicate, Option, Some, None, ℤ, ◌+ℤ◌, ◌<ℤ◌, refl, sym, subst, ◌∙◌, ap, arith, length-append, length-drop, length-set, get_or-set_same, get_or-set_other, ⊎_elim, add-one, below_more, ◌≢◌, ◌-◌}
 use Rattle.std.specs.List.{slice_index_or}
 use Rattle.std.proofs.lemmas.Int.{ints}
-use Rattle.std.proofs.lemmas.List.{take-append-drop, take-take, length-take-le, get_or-replicate, length-replicate, get_or_past, reverse-append}
+use Rattle.std.proofs.lemmas.List.{take-append-drop, take-take, length-take-le, get_or-drop, get_or-take, get_or-replicate, length-replicate, get_or_past, reverse-append}
 use Rattle.std.proofs.lemmas.Bool.{cases_eq, cases_lt}
 use Rattle.flow_solve.specs.declared.arc.Arc.{Arc}
-use Rattle.flow_solve.specs.Walk.{arc_at, IsWalk, walk_length, IsPositiveCycle}
+use Rattle.flow_solve.specs.Walk.{arc_at, IsWalk, walk_length, IsPositiveCycle, NoRepeat}
 use Rattle.flow_solve.specs.Rounds.{at, IsGraph, ComesBy, After}
 use Rattle.flow_solve.proofs.RoundLemmas.{arc_in, after_size}
 use Rattle.flow_solve.proofs.WalkLemmas.{walk_join, walk_length-append, walk_cut}
@@ -94,6 +94,7 @@ pub record Seen (graph : List Arc) (nodes from : ℕ) (walk : List ℕ) (i : ℕ
   pub size : length seen ≡ nodes
   pub places : (v p : ℕ) → get_or seen v None ≡ Some p → (p ≤ i) × IsWalk graph from (take p walk) v
   pub count : filled seen ≡ i + 1
+  pub marked : (p : ℕ) → p < i → get_or seen (arc_at graph (get_or walk p 0)).to None ≡ Some (p + 1)
 
 pub seen_start : (graph : List Arc) (nodes from : ℕ) (walk : List ℕ) → from < nodes → Seen graph nodes from walk 0 (set (replicate nodes None) from (Some 0))
 seen_start graph nodes from walk lt = record {
@@ -103,6 +104,7 @@ seen_start graph nodes from walk lt = record {
       (λ ne. absurd (nowhere v p (sym (get_or-set_other (replicate nodes None) from v (Some 0) None (λ e'. ne (sym e'))) ∙ e)))
       (cases_eq from v);
   count = filled-set (replicate nodes None) from 0 (omega (arith, size)) (get_or-replicate {A = Option ℕ} nodes from None None lt) ∙ ap (λ n. n + 1) (filled_none nodes);
+  marked = λ p lt'. absurd (omega arith);
 }
   where
     size : length (replicate {A = Option ℕ} nodes None) ≡ nodes
@@ -129,10 +131,17 @@ seen_more graph nodes from to i walk seen w lt in_range new before = record {
       (λ ne. let earlier = before.places v p (sym (get_or-set_other seen node v (Some (i + 1)) None (λ e'. ne (sym e'))) ∙ e) in (omega (arith, earlier.0), earlier.1))
       (cases_eq node v);
   count = filled-set seen node (i + 1) (omega (arith, before.size, in_range)) new ∙ ap (λ n. n + 1) before.count;
+  marked = below_more (λ p. get_or (set seen node (Some (i + 1))) (arc_at graph (get_or walk p 0)).to None ≡ Some (p + 1)) i
+      (λ p lt'. earlier p (before.marked p lt'))
+      (get_or-set_same seen node (Some (i + 1)) None (omega (arith, before.size, in_range)));
 }
   where
     node : ℕ
     node = (arc_at graph (get_or walk i 0)).to
+
+    earlier : (p : ℕ) → get_or seen (arc_at graph (get_or walk p 0)).to None ≡ Some (p + 1) → get_or (set seen node (Some (i + 1))) (arc_at graph (get_or walk p 0)).to None ≡ Some (p + 1)
+    earlier p e = get_or-set_other seen node (arc_at graph (get_or walk p 0)).to (Some (i + 1)) None
+        (λ same. let h : None ≡ Some (p + 1) = sym new ∙ ap (λ u. get_or seen u None) (sym same) ∙ e in cc) ∙ e
 
     here : (v p : ℕ) → node ≡ v → get_or (set seen node (Some (i + 1))) node None ≡ Some p → (p ≤ i + 1) × IsWalk graph from (take p walk) v
     here v p is e =
@@ -198,3 +207,26 @@ trace_size graph nodes rounds rounds' last back from to z n e t =
 pub none_left : (o : Option ℕ) → ((x : ℕ) → o ≡ Some x → ⊥) → o ≡ None
 none_left None h = refl
 none_left (Some x) h = absurd (h x refl)
+
+-- between two visits of one node, no arc stands twice
+pub seen_once : (graph : List Arc) (nodes from i first : ℕ) (walk : List ℕ) (seen : List (Option ℕ)) → get_or seen (arc_at graph (get_or walk i 0)).to None ≡ Some first
+    → Seen graph nodes from walk i seen → (p q : ℕ) → first ≤ p → p < q → q < i + 1 → get_or walk p 0 ≢ get_or walk q 0
+seen_once graph nodes from i first walk seen again s = λ p q past rising below same.
+    ⊎_elim
+    (λ last.
+    let to_same : (arc_at graph (get_or walk p 0)).to ≡ (arc_at graph (get_or walk i 0)).to = ap (λ k. (arc_at graph k).to) (same ∙ ap (λ n. get_or walk n 0) last) in
+    let h : Some (p + 1) ≡ Some first = sym (s.marked p (omega arith)) ∙ ap (λ u. get_or seen u None) to_same ∙ again in
+    let e : p + 1 ≡ first = cc in omega arith)
+    (λ not_last.
+    let to_same : (arc_at graph (get_or walk p 0)).to ≡ (arc_at graph (get_or walk q 0)).to = ap (λ k. (arc_at graph k).to) same in
+    let h : Some (p + 1) ≡ Some (q + 1) = sym (s.marked p (omega arith)) ∙ ap (λ u. get_or seen u None) to_same ∙ s.marked q (omega arith) in
+    let e : p + 1 ≡ q + 1 = cc in omega arith)
+    (cases_eq q i)
+
+pub part_once : (walk : List ℕ) (first again : ℕ) → first < again → again ≤ length walk
+    → ((p q : ℕ) → first ≤ p → p < q → q < again → get_or walk p 0 ≢ get_or walk q 0) → NoRepeat (drop first (take again walk))
+part_once walk first again lt le once = λ p q rising below same.
+    let size : length (drop first (take again walk)) ≡ again - first = omega (arith, length-drop first (take again walk), length-take-le again walk le) in
+    let at_p : get_or (drop first (take again walk)) p 0 ≡ get_or walk (first + p) 0 = get_or-drop first (take again walk) p 0 ∙ get_or-take again walk (first + p) 0 (omega arith) in
+    let at_q : get_or (drop first (take again walk)) q 0 ≡ get_or walk (first + q) 0 = get_or-drop first (take again walk) q 0 ∙ get_or-take again walk (first + q) 0 (omega arith) in
+    once (first + p) (first + q) (omega arith) (omega arith) (omega arith) (sym at_p ∙ same ∙ at_q)

@@ -1,2 +1,5 @@
 pub mod Walk
 pub mod Rounds
+pub mod LeastPlan
+pub mod Residual
+pub mod Conserve

@@ -1,5 +1,5 @@
 -- Walks in a graph whose arcs have lengths. A walk is a list of arc numbers.
-use Rattle.std.specs.Prelude.{◌≡◌, ℕ, ◌<◌, ◌≤◌, ◌^◌, ℤ, pos, neg_ℤ, ◌+ℤ◌, ◌<ℤ◌, ◌≤ℤ◌, List, [], ◌∷◌, length}
+use Rattle.std.specs.Prelude.{◌≡◌, ◌≢◌, slice_index, ℕ, ◌<◌, ◌≤◌, ◌^◌, ℤ, pos, neg_ℤ, ◌+ℤ◌, ◌<ℤ◌, ◌≤ℤ◌, List, [], ◌∷◌, length}
 use Rattle.std.specs.List.{All, slice_index_or}
 use Rattle.flow_solve.specs.declared.arc.Arc.{Arc}
 use Rattle.flow_solve.specs.declared.arc.Longest.{Longest}
@@ -47,6 +47,10 @@ IsPositiveCycle graph walk = (node : ℕ) × IsWalk graph node walk node × (pos
 abbrev pub HasPositiveCycle : List Arc → Type 0
 HasPositiveCycle graph = (walk : List ℕ) × IsPositiveCycle graph walk
 
+-- no arc stands twice in a walk
+abbrev pub NoRepeat : List ℕ → Type 0
+NoRepeat walk = (p q : ℕ) → p < q → q < length walk → slice_index walk p ≢ slice_index walk q
+
 -- the answer is a closed walk
 abbrev pub IsCycle : Longest → Type 0
 IsCycle (Lengths lengths) = ⊥
@@ -57,3 +61,9 @@ abbrev pub TellsWalks : ℕ → List Arc → Longest → Type 0
 TellsWalks nodes graph (Lengths lengths) =
     (length lengths.items ≡ nodes) × ((node : ℕ) → node < nodes → IsGreatestLength nodes graph node (at lengths.items node))
 TellsWalks nodes graph (Cycle walk) = IsPositiveCycle graph walk.items
+
+-- greatest lengths are from 0 to 2 ^ 52; a cycle has each arc once, and at most 1,024 of them
+abbrev pub IsSimple : ℕ → Longest → Type 0
+IsSimple nodes (Lengths lengths) =
+    (node : ℕ) → node < nodes → (pos 0 ≤ℤ at lengths.items node) × (at lengths.items node ≤ℤ pos (2 ^ 52))
+IsSimple nodes (Cycle walk) = NoRepeat walk.items × (length walk.items ≤ 1024)

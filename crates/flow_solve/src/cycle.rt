@@ -1,5 +1,5 @@
-ghost use Rattle.std.specs.Prelude.{◌≡◌, ℕ, ◌<◌, ◌≤◌, ◌<ℤ◌, List, length, take, reverse, replicate, IfOk};
-ghost use Rattle.flow_solve.specs.Walk.{at, IsGraph, IsWalk, walk_length, IsPositiveCycle};
+ghost use Rattle.std.specs.Prelude.{◌≡◌, ◌≢◌, slice_index, ℕ, ◌<◌, ◌≤◌, ◌<ℤ◌, List, length, take, reverse, replicate, IfOk};
+ghost use Rattle.flow_solve.specs.Walk.{at, IsGraph, IsWalk, walk_length, IsPositiveCycle, NoRepeat};
 ghost use Rattle.flow_solve.specs.Rounds.{After};
 
 use crate::Arc;
@@ -24,6 +24,7 @@ pub(crate) fn repeated(
     requires seen { seen.old ≡ replicate nodes None }
     ensures rises { result.0 < result.1 }
     ensures within { result.1 ≤ length walk.now }
+    ensures once { (p q : ℕ) → result.0 ≤ p → p < q → q < result.1 → slice_index walk.now p ≢ slice_index walk.now q }
     ensures same { (u : ℕ) × IsWalk graph.now from (take result.0 walk.now) u × IsWalk graph.now from (take result.1 walk.now) u }
 {
     seen[from as usize] = Some(0);
@@ -52,7 +53,9 @@ pub(crate) fn positive_cycle(
     requires to { to < nodes }
     requires shorter { (from : ℕ) (walk : List ℕ) → IsWalk graph.now from walk to
         → length walk < nodes → walk_length graph.now walk <ℤ at rounds.lengths.items to }
-    ensures { IfOk result (λ walk. IsPositiveCycle graph.now walk.items) }
+    ensures cycle { IfOk result (λ walk. IsPositiveCycle graph.now walk.items) }
+    ensures once { IfOk result (λ walk. NoRepeat walk.items) }
+    ensures short { IfOk result (λ walk. length walk.items ≤ 1024) }
 {
     let Traced { from, walk } = trace(alloc, nodes, graph, rounds, to)?;
     let mut seen = no_arcs(alloc, nodes)?;

@@ -1,14 +1,21 @@
-//! Longest walks in graphs with cycles.
+//! Longest walks in graphs with cycles, and the delays of least storage.
 #![tactic(auto)]
 
 mod arc;
 mod cycle;
+mod residual;
 mod round;
+mod solver;
+mod start;
 mod trace;
+mod unit;
 mod walks;
 
 pub use arc::{Arc, Longest};
+pub use solver::solve;
 pub use walks::longest;
 
+#[cfg(test)]
+mod small_nets;
 #[cfg(test)]
 mod tests;

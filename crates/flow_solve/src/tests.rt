@@ -1,4 +1,5 @@
-use crate::{Arc, Longest, longest};
+use crate::{Arc, Longest, longest, solve};
+use delay_net::{Net, Read, check, meets};
 use std::test::Fail;
 
 #[test]
@@ -59,5 +60,76 @@ fn cycles(rt: HostRuntime) -> Result<(), Fail> {
     ];
     let level = longest(rt.alloc(), 2, &flat)?;
     assert!(rt; matches!(level, Longest::Lengths(_)));
+    Ok(())
+}
+
+#[test]
+fn plan_of_blur(rt: HostRuntime) -> Result<(), Fail> {
+    let reads = [
+        Read {
+            reader: 1,
+            of: 0,
+            offset: 0,
+        },
+        Read {
+            reader: 1,
+            of: 0,
+            offset: 2000,
+        },
+        Read {
+            reader: 1,
+            of: 0,
+            offset: 4000,
+        },
+        Read {
+            reader: 2,
+            of: 1,
+            offset: 0,
+        },
+        Read {
+            reader: 2,
+            of: 1,
+            offset: 1,
+        },
+        Read {
+            reader: 2,
+            of: 1,
+            offset: 2,
+        },
+    ];
+    let net = Net::new(rt.alloc(), &[16, 16, 16], &reads)?;
+    let (delays, flow) = solve(rt.alloc(), &net)?;
+    assert_eq!(rt; delays.as_slice(), [0, 4000, 4002].as_slice());
+    assert!(rt; meets(&net, &delays));
+    assert_eq!(rt; flow.hold.as_slice().len(), 6);
+    assert_eq!(rt; flow.need.as_slice().len(), 6);
+    assert!(rt; check(&net, &delays, &flow));
+    Ok(())
+}
+
+#[test]
+fn plan_of_far(rt: HostRuntime) -> Result<(), Fail> {
+    let reads = [
+        Read {
+            reader: 1,
+            of: 0,
+            offset: 0,
+        },
+        Read {
+            reader: 2,
+            of: 0,
+            offset: 1000,
+        },
+        Read {
+            reader: 2,
+            of: 1,
+            offset: 0,
+        },
+    ];
+    let net = Net::new(rt.alloc(), &[8, 32, 32], &reads)?;
+    let (delays, flow) = solve(rt.alloc(), &net)?;
+    assert_eq!(rt; delays.as_slice(), [0, 1000, 1000].as_slice());
+    assert_eq!(rt; flow.hold.as_slice(), [8, 0, 32].as_slice());
+    assert_eq!(rt; flow.need.as_slice(), [0, 8, 24].as_slice());
     Ok(())
 }

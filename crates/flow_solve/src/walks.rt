@@ -1,5 +1,5 @@
 ghost use Rattle.std.specs.Prelude.{◌≡◌, ◌↔◌, pos, replicate, IfOk};
-ghost use Rattle.flow_solve.specs.Walk.{IsGraph, IsCycle, TellsWalks, HasPositiveCycle};
+ghost use Rattle.flow_solve.specs.Walk.{IsGraph, IsCycle, IsSimple, TellsWalks, HasPositiveCycle};
 
 use crate::cycle::positive_cycle;
 use crate::round::{Round, next_round};
@@ -14,6 +14,7 @@ use std::alloc::Global;
 pub fn longest(alloc: Global, nodes: u32, arcs: &[Arc]) -> Result<Longest, NoMemory>
     requires graph { IsGraph nodes arcs.now }
     ensures told { IfOk result (λ found. TellsWalks nodes arcs.now found) }
+    ensures simple { IfOk result (IsSimple nodes) }
     ensures cycle { IfOk result (λ found. IsCycle found ↔ HasPositiveCycle arcs.now) }
 {
     let mut lengths = zeros(alloc, nodes)?;

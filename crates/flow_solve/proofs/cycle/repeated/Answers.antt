@@ -1,6 +1,6 @@
 use Rattle.std.proofs.Common.{Some, get_or, set, subst, sym, arith}
 use Rattle.flow_solve.proofs.RoundLemmas.{arc_in}
-use Rattle.flow_solve.proofs.TraceLemmas.{Seen, seen_start, seen_more, seen_again, seen_all, arc_in_walk, none_left}
+use Rattle.flow_solve.proofs.TraceLemmas.{Seen, seen_start, seen_more, seen_again, seen_all, seen_once, arc_in_walk, none_left}
 use Rattle.flow_solve.proofs.cycle.repeated.Goals as goal
 
 pub loop-i-init : goal.loop-i-init
@@ -31,3 +31,7 @@ loop-i-preserved c =
 pub unreachable-requires : goal.unreachable-requires
 unreachable-requires c =
     seen_all c.args.graph.now c.args.nodes c.args.from c.loop-i.i c.args.walk.now c.loop-i.seen (omega (arith, c.requires.long, c.loop-i-test.false)) c.loop-i.invariant
+
+pub returns-in-Some-clause-once : goal.returns-in-Some-clause-once
+returns-in-Some-clause-once c =
+    seen_once c.args.graph.now c.args.nodes c.args.from c.loop-i.i c.in-Some.first c.args.walk.now c.loop-i.seen c.in-Some.is c.loop-i.invariant

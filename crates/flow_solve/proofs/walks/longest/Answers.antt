@@ -58,3 +58,9 @@ returns-in_default-raised-clause-cycle c =
     let none : c.loop.raised ≡ None = none_left c.loop.raised c.in_default-raised.not-Some in
     let search = subst (λ (o : Option ℕ). IsSearch c.args.arcs.now c.args.nodes c.loop.counter c.loop.lengths.items c.loop.last.items o) none c.loop.invariant in
     (λ no. absurd no, (search_nothing c.args.arcs.now c.args.nodes c.loop.counter c.loop.lengths.items c.loop.last.items c.requires.graph (omega (arith, c.loop-test.false)) search).1)
+
+pub returns-in_default-clause-simple : goal.returns-in_default-clause-simple
+returns-in_default-clause-simple c = λ v lt.
+    let small = after_small c.args.arcs.now c.args.nodes (reverse c.loop.last.items) c.loop.lengths.items c.requires.graph c.loop.invariant.after v lt in
+    let rounds : length (reverse c.loop.last.items) ≤ 2 ^ 10 = omega (arith, length-reverse c.loop.last.items, c.loop.invariant.count, c.loop-test.true, c.requires.graph.few_nodes) in
+    (small.0, omega (arith, ints, small.1, rounds))
