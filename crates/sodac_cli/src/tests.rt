@@ -1,6 +1,7 @@
 use super::*;
 use soda_io::{FileCall, FileRole, Files, MemFiles, MemSink};
 use std::alloc::{AllocError, Global};
+use std::process::Abort;
 use std::test::Fail;
 
 const SUM3: &[u8] =
@@ -10,9 +11,10 @@ const CELLS: &[u8] = b"1\n2\n4\n8\n16\n";
 
 const SUMS: &[u8] = b"0\n7\n14\n28\n0\n";
 
-fn words(alloc: Global, line: &[&str]) -> Result<Vec<String>, AllocError> {
+// The words of a line, which stand between single blanks.
+fn words(alloc: Global, line: &str) -> Result<Vec<String>, AllocError> {
     let mut all = Vec::new(alloc);
-    for word in line {
+    for word in line.split(' ') {
         all.push(String::from_str(alloc, word)?)?;
     }
     Ok(all)
@@ -32,7 +34,7 @@ fn sums_three_cells(rt: HostRuntime) -> Result<(), Fail> {
     let mut files = files(alloc, SUM3, CELLS, &[])?;
     let mut out = MemSink::new(alloc, &[])?;
     let mut err = MemSink::new(alloc, &[])?;
-    let words = words(alloc, &["sodac", "plain", "p", "5", "i", "o"])?;
+    let words = words(alloc, "sodac plain p 5 i o")?;
     assert_eq!(rt;
         execute(alloc, &words, &mut files, &mut out, &mut err),
         Status::Ok
@@ -57,40 +59,12 @@ fn sums_three_cells(rt: HostRuntime) -> Result<(), Fail> {
 #[test]
 fn each_call_fails_in_turn(rt: HostRuntime) -> Result<(), Fail> {
     let alloc = rt.alloc();
-    let words = words(alloc, &["sodac", "plain", "p", "5", "i", "o"])?;
+    let words = words(alloc, "sodac plain p 5 i o")?;
+    let program = (FileRole::Program, "sodac: file fault: program\n");
+    let input = (FileRole::Input(0), "sodac: file fault: input 0\n");
+    let output = (FileRole::Output(0), "sodac: file fault: output 0\n");
     let roles = [
-        (
-            FileRole::Program,
-            b"sodac: file fault: program\n".as_slice(),
-        ),
-        (
-            FileRole::Program,
-            b"sodac: file fault: program\n".as_slice(),
-        ),
-        (
-            FileRole::Program,
-            b"sodac: file fault: program\n".as_slice(),
-        ),
-        (
-            FileRole::Input(0),
-            b"sodac: file fault: input 0\n".as_slice(),
-        ),
-        (
-            FileRole::Output(0),
-            b"sodac: file fault: output 0\n".as_slice(),
-        ),
-        (
-            FileRole::Input(0),
-            b"sodac: file fault: input 0\n".as_slice(),
-        ),
-        (
-            FileRole::Input(0),
-            b"sodac: file fault: input 0\n".as_slice(),
-        ),
-        (
-            FileRole::Output(0),
-            b"sodac: file fault: output 0\n".as_slice(),
-        ),
+        program, program, program, input, output, input, input, output,
     ];
     for (number, (role, line)) in roles.iter().enumerate() {
         let mut files = files(alloc, SUM3, CELLS, &[number as u64])?;
@@ -98,7 +72,7 @@ fn each_call_fails_in_turn(rt: HostRuntime) -> Result<(), Fail> {
         let mut err = MemSink::new(alloc, &[])?;
         let status = execute(alloc, &words, &mut files, &mut out, &mut err);
         assert_eq!(rt; status, Status::FileFault(*role), "at call {number}");
-        assert_eq!(rt; err.bytes(), *line, "at call {number}");
+        assert_eq!(rt; err.bytes(), line.as_bytes(), "at call {number}");
         assert_eq!(rt; files.journal().len(), number + 1, "at call {number}");
         let left = if number < 5 {
             None
@@ -110,91 +84,75 @@ fn each_call_fails_in_turn(rt: HostRuntime) -> Result<(), Fail> {
     Ok(())
 }
 
+// Over the files of the example these words are answered by this status, and by this line.
+fn expect_refusal(
+    rt: &impl Abort,
+    alloc: Global,
+    line: &str,
+    status: Status,
+    message: &str,
+) -> Result<(), Fail> {
+    let words = words(alloc, line)?;
+    let mut files = files(alloc, SUM3, CELLS, &[])?;
+    let mut out = MemSink::new(alloc, &[])?;
+    let mut err = MemSink::new(alloc, &[])?;
+    let found = execute(alloc, &words, &mut files, &mut out, &mut err);
+    assert_eq!(rt; found, status, "at {line}");
+    assert_eq!(rt; err.bytes(), message.as_bytes(), "at {line}");
+    Ok(())
+}
+
 #[test]
-fn refuses_in_order(rt: HostRuntime) -> Result<(), Fail> {
-    let alloc = rt.alloc();
+fn words_that_are_not_taken(rt: HostRuntime) -> Result<(), Fail> {
     let usage =
-        b"sodac: usage: sodac [--share] [--raw] [--trace] [--params FILE] [--stall FILE] MODE WORDS\n".as_slice();
-    let unbuilt = b"sodac: not yet built\n".as_slice();
-    let missing = b"sodac: file fault: input 0\n".as_slice();
-    let rows = [
-        (
-            ["sodac", "plain", "p", "5", "i", "i"].as_slice(),
-            Status::Usage,
-            usage,
-        ),
-        (
-            ["sodac", "plain", "p", "5", "i", "p"].as_slice(),
-            Status::Usage,
-            usage,
-        ),
-        (
-            ["sodac", "plain", "p", "05", "i", "o"].as_slice(),
-            Status::Usage,
-            usage,
-        ),
-        (
-            ["sodac", "plain", "p", "5", "i"].as_slice(),
-            Status::Usage,
-            usage,
-        ),
-        (
-            ["sodac", "plane", "p", "5", "i", "o"].as_slice(),
-            Status::Usage,
-            usage,
-        ),
-        (["sodac"].as_slice(), Status::Usage, usage),
-        (
-            ["sodac", "sim", "p"].as_slice(),
-            Status::NotYetBuilt,
-            unbuilt,
-        ),
-        (
-            ["sodac", "plain", "i", "5", "none", "o"].as_slice(),
-            Status::NotYetBuilt,
-            unbuilt,
-        ),
-        (
-            ["sodac", "plain", "p", "16777217", "none", "o"].as_slice(),
-            Status::NotYetBuilt,
-            unbuilt,
-        ),
-        (
-            ["sodac", "plain", "p", "16777216", "none", "o"].as_slice(),
-            Status::FileFault(FileRole::Input(0)),
-            missing,
-        ),
-        (
-            ["sodac", "plain", "p", "4", "i", "o"].as_slice(),
-            Status::NotYetBuilt,
-            unbuilt,
-        ),
-        (
-            ["sodac", "plain", "p", "6", "i", "o"].as_slice(),
-            Status::NotYetBuilt,
-            unbuilt,
-        ),
+        "sodac: usage: sodac [--share] [--raw] [--trace] [--params FILE] [--stall FILE] MODE WORDS\n";
+    let lines = [
+        "sodac plain p 5 i i",
+        "sodac plain p 5 i p",
+        "sodac plain p 05 i o",
+        "sodac plain p 5 i",
+        "sodac plane p 5 i o",
+        "sodac",
     ];
-    for (line, status, message) in rows {
-        let mut files = files(alloc, SUM3, CELLS, &[])?;
-        let mut out = MemSink::new(alloc, &[])?;
-        let mut err = MemSink::new(alloc, &[])?;
-        let words = words(alloc, line)?;
-        let name = line.len();
-        assert_eq!(rt;
-            execute(alloc, &words, &mut files, &mut out, &mut err),
-            status,
-            "at {name} words"
-        );
-        assert_eq!(rt; err.bytes(), message);
+    for line in lines {
+        expect_refusal(&rt, rt.alloc(), line, Status::Usage, usage)?;
     }
     Ok(())
 }
 
 #[test]
+fn refuses_in_order(rt: HostRuntime) -> Result<(), Fail> {
+    let unbuilt = [
+        "sodac sim p",
+        "sodac plain i 5 none o",
+        "sodac plain p 16777217 none o",
+        "sodac plain p 4 i o",
+        "sodac plain p 6 i o",
+    ];
+    for line in unbuilt {
+        expect_refusal(
+            &rt,
+            rt.alloc(),
+            line,
+            Status::NotYetBuilt,
+            "sodac: not yet built\n",
+        )?;
+    }
+    let missing = Status::FileFault(FileRole::Input(0));
+    let line = "sodac plain p 16777216 none o";
+    expect_refusal(
+        &rt,
+        rt.alloc(),
+        line,
+        missing,
+        "sodac: file fault: input 0\n",
+    )
+}
+
+#[test]
 fn judges_the_input(rt: HostRuntime) -> Result<(), Fail> {
     let alloc = rt.alloc();
-    let words = words(alloc, &["sodac", "plain", "p", "5", "i", "o"])?;
+    let words = words(alloc, "sodac plain p 5 i o")?;
     let inputs = [
         b"1\n2\n4\n8\n16".as_slice(),
         b"1\n2\n256\n8\n16\n".as_slice(),
@@ -218,7 +176,7 @@ fn judges_the_input(rt: HostRuntime) -> Result<(), Fail> {
 #[test]
 fn a_failing_line_changes_no_status(rt: HostRuntime) -> Result<(), Fail> {
     let alloc = rt.alloc();
-    let words = words(alloc, &["sodac"])?;
+    let words = words(alloc, "sodac")?;
     let mut files = MemFiles::new(alloc, &[])?;
     let mut out = MemSink::new(alloc, &[])?;
     let mut err = MemSink::new(alloc, &[0])?;
