@@ -1,14 +1,28 @@
 -- What the run of a job finds in its files, and what it leaves there.
-use Rattle.std.proofs.Common.{◌≡◌, ◌≢◌, ◌<◌, ◌≤◌, ℕ, ◌+◌, ◌*◌, true, false, List, [], length, take, drop, unwrap_or, Option, Some, None, Result, Ok, refl, sym, ap, ◌∙◌, arith, inl, inr, ℤ}
-use Rattle.std.proofs.lemmas.List.{take_all}
+use Rattle.std.proofs.Common.{◌≡◌, ◌≢◌, ◌<◌, ◌≤◌, ℕ, ◌+◌, ◌-◌, ◌*◌, true, false, List, [], ◌∷◌, ◌++◌, append_assoc, length, take, drop, unwrap_or, Option, Some, None, Result, Ok, refl, sym, ap, ◌∙◌, arith, inl, inr, ℤ}
+use Rattle.std.proofs.lemmas.List.{append_cancel_left, take_all}
 use Rattle.soda_io.specs.declared.error.IoErr.{IoErr}
 use Rattle.soda_io.specs.Store.{Store, Creates, KeepsBytes, KeepsIds, Opens, content, left}
-use Rattle.whole_files.specs.Writing.{WritesWhole}
+use Rattle.soda_io.specs.declared.call.FileCall.{FileCall}
+use Rattle.soda_io.specs.declared.call.FileCall.TheVariants.{Open, Create}
+use Rattle.whole_files.specs.Writing.{WritesWhole, last_write}
 use Rattle.soda_ir.specs.Program.{PlainProgram, cells_at}
 use Rattle.job_parts.specs.Cells.{AreCells}
 use Rattle.sodac_cli.specs.Job.{PlainJob}
+use Rattle.sodac_cli.specs.Journal.{creates}
 use Rattle.sodac_cli.specs.Meaning.{HasProgram, Holding, IsBegun, IsFine, IsTextOver, IsUnbuiltJob, input, Leaves, most_cells, output_text}
 use Rattle.sodac_cli.proofs.Running.{cells_short}
+
+-- entries among which a file was created
+creates_some : (a b c d later es : List FileCall) (name output : List ℕ) (id : Option ℕ) (k : ℕ) → b ≡ a ++ Open name id ∷ [] → c ≡ b ++ Create output (Some k) ∷ [] → d ≡ c ++ later → d ≡ a ++ es → creates es ≢ []
+creates_some a b c d later es name output id k first second third calls none =
+    let two : c ≡ a ++ Open name id ∷ Create output (Some k) ∷ [] =
+    second ∙ ap (λ (xs : List FileCall). xs ++ Create output (Some k) ∷ []) first ∙ append_assoc a (Open name id ∷ []) (Create output (Some k) ∷ []) in
+    let joined : d ≡ a ++ Open name id ∷ Create output (Some k) ∷ later =
+    third ∙ ap (λ (xs : List FileCall). xs ++ later) two ∙ append_assoc a (Open name id ∷ Create output (Some k) ∷ []) later in
+    let same : es ≡ Open name id ∷ Create output (Some k) ∷ later = append_cancel_left a es (Open name id ∷ Create output (Some k) ∷ later) (sym calls ∙ joined) in
+    let bad : output ∷ creates later ≡ [] = sym (ap creates same) ∙ none in
+    cc
 
 there : (old : Option (List ℕ)) → (old ≡ None → ⊥) → (x : List ℕ) × (old ≡ Some x)
 there None h = absurd (h refl)
@@ -35,11 +49,12 @@ module _ (g m : ℕ) (s0 s1 s2 : Store) (j : PlainJob) (i k : ℕ) (o : Opens g 
       ap (λ p. drop p (content s2 i)) input_place ∙ whole
 
   -- the output is created, and empty
-  module _ (s3 : Store) (keeps : KeepsBytes s2 s3) where
+  module _ (s3 : Store) (keeps : KeepsBytes s2 s3) (later : List FileCall) (more_calls : s3.calls ≡ s2.calls ++ later) where
     pub created_leaves : Leaves s0 s3 j
     created_leaves = record {
       others = λ n ne. keeps n ∙ cr.emptied.others n ne ∙ o.bytes n;
-      output = λ es calls. inr ([], keeps j.output ∙ cr.emptied.own, inl refl);
+      output = λ es calls.
+          inr (creates_some s0.calls s1.calls s2.calls s3.calls later es j.input j.output (Some i) k o.calls cr.calls more_calls calls, [], keeps j.output ∙ cr.emptied.own, inl refl);
     }
 
     module _ (n : ℕ) (more : n ≡ m + 1) (ids : KeepsIds n s2 s3) (p : ℕ) (s4 : Store) (bytes : List ℕ) where
@@ -56,7 +71,10 @@ module _ (g m : ℕ) (s0 s1 s2 : Store) (j : PlainJob) (i k : ℕ) (o : Opens g 
       pub wrote_leaves : (f : IsFine s0.bytes j) → bytes ≡ output_text j f.begun.plain f.cells → (r : Result (Unit {0}) IoErr) → WritesWhole p s3 s4 k bytes r → Leaves s0 s4 j
       wrote_leaves f is r w = record {
         others = wrote_others r w;
-        output = λ es calls. inr (take w.count bytes, wrote_own r w, inr (f, w.count, ap (take w.count) is));
+        output = λ es calls.
+            let written : s4.calls ≡ s2.calls ++ (later ++ (w.entries ++ last_write k (length bytes - w.count) r)) =
+            w.calls ∙ ap (λ (xs : List FileCall). xs ++ (w.entries ++ last_write k (length bytes - w.count) r)) more_calls ∙ append_assoc s2.calls later (w.entries ++ last_write k (length bytes - w.count) r) in
+            inr (creates_some s0.calls s1.calls s2.calls s4.calls (later ++ (w.entries ++ last_write k (length bytes - w.count) r)) es j.input j.output (Some i) k o.calls cr.calls written calls, take w.count bytes, wrote_own r w, inr (f, w.count, ap (take w.count) is));
       }
 
       pub wrote_all : (u : Unit {0}) → WritesWhole p s3 s4 k bytes (Ok u) → s4.bytes j.output ≡ Some bytes

@@ -110,6 +110,6 @@ module _ (g h : ℕ) (a b c : Store) (j : PlainJob) (keeps : KeepsBytes a b) (lo
             let same : es ≡ log.clean.entries ++ later.0 = append_cancel_left a.calls es (log.clean.entries ++ later.0) (sym calls ∙ joined) in
             elim (l.output later.0 later.1) [
               | inl k ↦ inl (k.0 ∙ keeps j.output, ap creates same ∙ creates-append log.clean.entries later.0 ∙ ap (λ (ns : List (List ℕ)). ns ++ creates later.0) (one_open log.clean.entries j.program log.clean.asked) ∙ k.1)
-              | inr f ↦ inr (f.0, f.1, let P : Holding → Type 0 = λ x. IsFront x j f.0 in subst P (same_holding a b keeps) f.2)
+              | inr f ↦ inr (λ e. f.0 (sym (ap creates same ∙ creates-append log.clean.entries later.0 ∙ ap (λ (ns : List (List ℕ)). ns ++ creates later.0) (one_open log.clean.entries j.program log.clean.asked)) ∙ e), f.1, f.2, let P : Holding → Type 0 = λ x. IsFront x j f.1 in subst P (same_holding a b keeps) f.3)
             ];
       }

@@ -107,7 +107,7 @@ IsFront old j bytes = (bytes ≡ []) ⊎ ((f : IsFine old j) × (n : ℕ) × (by
 pub record Leaves (old new : Store) (j : PlainJob) : Type 0 where
   pub others : (n : List ℕ) → n ≢ j.output → new.bytes n ≡ old.bytes n
   pub output : (entries : List FileCall) → new.calls ≡ old.calls ++ entries
-      → ((new.bytes j.output ≡ old.bytes j.output) × (creates entries ≡ [])) ⊎ ((bytes : List ℕ) × (new.bytes j.output ≡ Some bytes) × IsFront old.bytes j bytes)
+      → ((new.bytes j.output ≡ old.bytes j.output) × (creates entries ≡ [])) ⊎ ((creates entries ≢ []) × (bytes : List ℕ) × (new.bytes j.output ≡ Some bytes) × IsFront old.bytes j bytes)
 
 -- what has to hold before the k-th file is asked for: the program's text was read and accepted, and the limit kept
 abbrev pub Before : Holding → PlainJob → ℕ → Type 0

@@ -11,7 +11,7 @@ ghost use Rattle.sodac_cli.specs.Meaning.{IsTextOver, text_of, Before, Faults, H
 ghost use Rattle.sodac_cli.specs.Stages.{TextBytes, TextLog};
 
 use crate::Status;
-use job_parts::{MOST_TEXT, PlainWords, array_text, read_cells, read_program};
+use job_parts::{MOST_TEXT, PlainWords, array_text, read_cells};
 use soda_io::{FileRole, Files, IoErr};
 use soda_ir::{NoMemory, Program, plain_run};
 use sqlite_items::Items;

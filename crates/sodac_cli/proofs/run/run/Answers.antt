@@ -30,7 +30,7 @@ returns-in-Err-TooLong-clause-asks g c = λ told.
 
 pub returns-in-Err-TooLong-clause-leaves : goal.returns-in-Err-TooLong-clause-leaves
 returns-in-Err-TooLong-clause-leaves g c = λ told.
-    created_leaves _ _ _ _ _ (job_of c.args.job.now) _ _ (c.in-Ok.ensures.store told) c.in-Ok.ensures.id.0 c.in-Ok.ensures.id.1 (c.in-Ok-create.ensures.store told) c.in-Ok-create.ensures.id.0 c.requires.apart (g.F.Files.store c.read_whole.new.files) (c.in-Err-TooLong.ensures.store told).bytes
+    created_leaves _ _ _ _ _ (job_of c.args.job.now) _ _ (c.in-Ok.ensures.store told) c.in-Ok.ensures.id.0 c.in-Ok.ensures.id.1 (c.in-Ok-create.ensures.store told) c.in-Ok-create.ensures.id.0 c.requires.apart (g.F.Files.store c.read_whole.new.files) (c.in-Err-TooLong.ensures.store told).bytes _ (c.in-Err-TooLong.ensures.store told).calls
 
 pub returns-in-Err-Failed-read_whole-clause-asks : goal.returns-in-Err-Failed-read_whole-clause-asks
 returns-in-Err-Failed-read_whole-clause-asks g c = λ told.
@@ -38,7 +38,7 @@ returns-in-Err-Failed-read_whole-clause-asks g c = λ told.
 
 pub returns-in-Err-Failed-read_whole-clause-leaves : goal.returns-in-Err-Failed-read_whole-clause-leaves
 returns-in-Err-Failed-read_whole-clause-leaves g c = λ told.
-    created_leaves _ _ _ _ _ (job_of c.args.job.now) _ _ (c.in-Ok.ensures.store told) c.in-Ok.ensures.id.0 c.in-Ok.ensures.id.1 (c.in-Ok-create.ensures.store told) c.in-Ok-create.ensures.id.0 c.requires.apart (g.F.Files.store c.read_whole.new.files) (c.in-Err-Failed-read_whole.ensures.store told).bytes
+    created_leaves _ _ _ _ _ (job_of c.args.job.now) _ _ (c.in-Ok.ensures.store told) c.in-Ok.ensures.id.0 c.in-Ok.ensures.id.1 (c.in-Ok-create.ensures.store told) c.in-Ok-create.ensures.id.0 c.requires.apart (g.F.Files.store c.read_whole.new.files) (c.in-Err-Failed-read_whole.ensures.store told).bytes _ (c.in-Err-Failed-read_whole.ensures.store told).calls
 
 pub returns-in-Err-Memory-read_whole-clause-asks : goal.returns-in-Err-Memory-read_whole-clause-asks
 returns-in-Err-Memory-read_whole-clause-asks g c = λ told.
@@ -46,7 +46,7 @@ returns-in-Err-Memory-read_whole-clause-asks g c = λ told.
 
 pub returns-in-Err-Memory-read_whole-clause-leaves : goal.returns-in-Err-Memory-read_whole-clause-leaves
 returns-in-Err-Memory-read_whole-clause-leaves g c = λ told.
-    created_leaves _ _ _ _ _ (job_of c.args.job.now) _ _ (c.in-Ok.ensures.store told) c.in-Ok.ensures.id.0 c.in-Ok.ensures.id.1 (c.in-Ok-create.ensures.store told) c.in-Ok-create.ensures.id.0 c.requires.apart (g.F.Files.store c.read_whole.new.files) (c.in-Err-Memory-read_whole.ensures.store told).bytes
+    created_leaves _ _ _ _ _ (job_of c.args.job.now) _ _ (c.in-Ok.ensures.store told) c.in-Ok.ensures.id.0 c.in-Ok.ensures.id.1 (c.in-Ok-create.ensures.store told) c.in-Ok-create.ensures.id.0 c.requires.apart (g.F.Files.store c.read_whole.new.files) (c.in-Err-Memory-read_whole.ensures.store told).bytes _ (c.in-Err-Memory-read_whole.ensures.store told).calls
 
 pub returns-in-Err-TooLong-clause-tells : goal.returns-in-Err-TooLong-clause-tells
 returns-in-Err-TooLong-clause-tells g c = λ told.
@@ -64,7 +64,7 @@ returns-in-Ok-None-clause-asks g c = λ told.
 
 pub returns-in-Ok-None-clause-leaves : goal.returns-in-Ok-None-clause-leaves
 returns-in-Ok-None-clause-leaves g c = λ told.
-    created_leaves _ _ _ _ _ (job_of c.args.job.now) _ _ (c.in-Ok.ensures.store told) c.in-Ok.ensures.id.0 c.in-Ok.ensures.id.1 (c.in-Ok-create.ensures.store told) c.in-Ok-create.ensures.id.0 c.requires.apart (g.F.Files.store c.read_whole.new.files) (c.in-Ok-read_whole.ensures.store told).bytes
+    created_leaves _ _ _ _ _ (job_of c.args.job.now) _ _ (c.in-Ok.ensures.store told) c.in-Ok.ensures.id.0 c.in-Ok.ensures.id.1 (c.in-Ok-create.ensures.store told) c.in-Ok-create.ensures.id.0 c.requires.apart (g.F.Files.store c.read_whole.new.files) (c.in-Ok-read_whole.ensures.store told).bytes _ (c.in-Ok-read_whole.ensures.store told).calls
 
 pub returns-in-Err-clause-asks : goal.returns-in-Err-clause-asks
 returns-in-Err-clause-asks g c = λ told.
@@ -72,7 +72,7 @@ returns-in-Err-clause-asks g c = λ told.
 
 pub returns-in-Err-clause-leaves : goal.returns-in-Err-clause-leaves
 returns-in-Err-clause-leaves g c = λ told.
-    created_leaves _ _ _ _ _ (job_of c.args.job.now) _ _ (c.in-Ok.ensures.store told) c.in-Ok.ensures.id.0 c.in-Ok.ensures.id.1 (c.in-Ok-create.ensures.store told) c.in-Ok-create.ensures.id.0 c.requires.apart (g.F.Files.store c.read_whole.new.files) (c.in-Ok-read_whole.ensures.store told).bytes
+    created_leaves _ _ _ _ _ (job_of c.args.job.now) _ _ (c.in-Ok.ensures.store told) c.in-Ok.ensures.id.0 c.in-Ok.ensures.id.1 (c.in-Ok-create.ensures.store told) c.in-Ok-create.ensures.id.0 c.requires.apart (g.F.Files.store c.read_whole.new.files) (c.in-Ok-read_whole.ensures.store told).bytes _ (c.in-Ok-read_whole.ensures.store told).calls
 
 pub returns-in-Ok-None-clause-tells : goal.returns-in-Ok-None-clause-tells
 returns-in-Ok-None-clause-tells g c = λ told.
@@ -96,7 +96,7 @@ returns-in-Ok-write_whole-clause-leaves g c = λ told.
     let found = rw c.in-Ok-Some.field-0-is at c.in-Ok-Some.ensures.found in
     let f = fine _ (job_of c.args.job.now) (plain c.args.program.now) (c.requires.program told) c.requires.small c.deref.result.now is c.in-Ok-Some.text.items found in
     let text = c.deref-2.ensures.value ∙ found.text in
-    wrote_leaves _ _ _ _ _ (job_of c.args.job.now) _ _ (c.in-Ok.ensures.store told) c.in-Ok.ensures.id.0 c.in-Ok.ensures.id.1 (c.in-Ok-create.ensures.store told) c.in-Ok-create.ensures.id.0 c.requires.apart _ (c.in-Ok-read_whole.ensures.store told).bytes _ (c.in-Ok-create.ensures.id.1) (c.in-Ok-read_whole.ensures.store told).ids _ _ _ f text _ (c.in-Ok-write_whole.ensures.store told)
+    wrote_leaves _ _ _ _ _ (job_of c.args.job.now) _ _ (c.in-Ok.ensures.store told) c.in-Ok.ensures.id.0 c.in-Ok.ensures.id.1 (c.in-Ok-create.ensures.store told) c.in-Ok-create.ensures.id.0 c.requires.apart _ (c.in-Ok-read_whole.ensures.store told).bytes _ (c.in-Ok-read_whole.ensures.store told).calls _ (c.in-Ok-create.ensures.id.1) (c.in-Ok-read_whole.ensures.store told).ids _ _ _ f text _ (c.in-Ok-write_whole.ensures.store told)
 
 pub returns-in-Err-Failed-write_whole-clause-asks : goal.returns-in-Err-Failed-write_whole-clause-asks
 returns-in-Err-Failed-write_whole-clause-asks g c = λ told.
@@ -111,7 +111,7 @@ returns-in-Err-Failed-write_whole-clause-leaves g c = λ told.
     let found = rw c.in-Ok-Some.field-0-is at c.in-Ok-Some.ensures.found in
     let f = fine _ (job_of c.args.job.now) (plain c.args.program.now) (c.requires.program told) c.requires.small c.deref.result.now is c.in-Ok-Some.text.items found in
     let text = c.deref-2.ensures.value ∙ found.text in
-    wrote_leaves _ _ _ _ _ (job_of c.args.job.now) _ _ (c.in-Ok.ensures.store told) c.in-Ok.ensures.id.0 c.in-Ok.ensures.id.1 (c.in-Ok-create.ensures.store told) c.in-Ok-create.ensures.id.0 c.requires.apart _ (c.in-Ok-read_whole.ensures.store told).bytes _ (c.in-Ok-create.ensures.id.1) (c.in-Ok-read_whole.ensures.store told).ids _ _ _ f text _ (c.in-Err-Failed-write_whole.ensures.store told)
+    wrote_leaves _ _ _ _ _ (job_of c.args.job.now) _ _ (c.in-Ok.ensures.store told) c.in-Ok.ensures.id.0 c.in-Ok.ensures.id.1 (c.in-Ok-create.ensures.store told) c.in-Ok-create.ensures.id.0 c.requires.apart _ (c.in-Ok-read_whole.ensures.store told).bytes _ (c.in-Ok-read_whole.ensures.store told).calls _ (c.in-Ok-create.ensures.id.1) (c.in-Ok-read_whole.ensures.store told).ids _ _ _ f text _ (c.in-Err-Failed-write_whole.ensures.store told)
 
 pub returns-clause-asks : goal.returns-clause-asks
 returns-clause-asks g c = λ told.
@@ -126,7 +126,7 @@ returns-clause-leaves g c = λ told.
     let found = rw c.in-Ok-Some.field-0-is at c.in-Ok-Some.ensures.found in
     let f = fine _ (job_of c.args.job.now) (plain c.args.program.now) (c.requires.program told) c.requires.small c.deref.result.now is c.in-Ok-Some.text.items found in
     let text = c.deref-2.ensures.value ∙ found.text in
-    wrote_leaves _ _ _ _ _ (job_of c.args.job.now) _ _ (c.in-Ok.ensures.store told) c.in-Ok.ensures.id.0 c.in-Ok.ensures.id.1 (c.in-Ok-create.ensures.store told) c.in-Ok-create.ensures.id.0 c.requires.apart _ (c.in-Ok-read_whole.ensures.store told).bytes _ (c.in-Ok-create.ensures.id.1) (c.in-Ok-read_whole.ensures.store told).ids _ _ _ f text _ (c.in-Err-Memory-write_whole.ensures.store told)
+    wrote_leaves _ _ _ _ _ (job_of c.args.job.now) _ _ (c.in-Ok.ensures.store told) c.in-Ok.ensures.id.0 c.in-Ok.ensures.id.1 (c.in-Ok-create.ensures.store told) c.in-Ok-create.ensures.id.0 c.requires.apart _ (c.in-Ok-read_whole.ensures.store told).bytes _ (c.in-Ok-read_whole.ensures.store told).calls _ (c.in-Ok-create.ensures.id.1) (c.in-Ok-read_whole.ensures.store told).ids _ _ _ f text _ (c.in-Err-Memory-write_whole.ensures.store told)
 
 pub returns-in-Ok-write_whole-clause-tells : goal.returns-in-Ok-write_whole-clause-tells
 returns-in-Ok-write_whole-clause-tells g c = λ told.
@@ -137,7 +137,7 @@ returns-in-Ok-write_whole-clause-tells g c = λ told.
     let found = rw c.in-Ok-Some.field-0-is at c.in-Ok-Some.ensures.found in
     let f = fine _ (job_of c.args.job.now) (plain c.args.program.now) (c.requires.program told) c.requires.small c.deref.result.now is c.in-Ok-Some.text.items found in
     let text = c.deref-2.ensures.value ∙ found.text in
-    (f, wrote_all _ _ _ _ _ (job_of c.args.job.now) _ _ (c.in-Ok.ensures.store told) c.in-Ok.ensures.id.0 c.in-Ok.ensures.id.1 (c.in-Ok-create.ensures.store told) c.in-Ok-create.ensures.id.0 c.requires.apart _ (c.in-Ok-read_whole.ensures.store told).bytes _ (c.in-Ok-create.ensures.id.1) (c.in-Ok-read_whole.ensures.store told).ids _ _ _ c.in-Ok-write_whole.field-0 (c.in-Ok-write_whole.ensures.store told) ∙ ap (λ (xs : List ℕ). Some xs) text)
+    (f, wrote_all _ _ _ _ _ (job_of c.args.job.now) _ _ (c.in-Ok.ensures.store told) c.in-Ok.ensures.id.0 c.in-Ok.ensures.id.1 (c.in-Ok-create.ensures.store told) c.in-Ok-create.ensures.id.0 c.requires.apart _ (c.in-Ok-read_whole.ensures.store told).bytes _ (c.in-Ok-read_whole.ensures.store told).calls _ (c.in-Ok-create.ensures.id.1) (c.in-Ok-read_whole.ensures.store told).ids _ _ _ c.in-Ok-write_whole.field-0 (c.in-Ok-write_whole.ensures.store told) ∙ ap (λ (xs : List ℕ). Some xs) text)
 
 pub returns-in-Err-Failed-clause-leaves : goal.returns-in-Err-Failed-clause-leaves
 returns-in-Err-Failed-clause-leaves g c = λ told. unopened_leaves _ _ _ (job_of c.args.job.now) c.in-Err-Failed.field-0 (c.in-Err-Failed.ensures.store told)
