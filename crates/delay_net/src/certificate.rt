@@ -2,7 +2,7 @@ ghost use Rattle.std.specs.Prelude.{◌≡◌, ℕ, ◌+◌, ◌<◌, ◌≤◌,
 ghost use Rattle.std.specs.List.{All};
 ghost use Rattle.delay_net.specs.Shape.{IsNet, HasSmallOffset};
 ghost use Rattle.delay_net.specs.Windows.{IsAssignment, HasShortDelays, MeetsWindows, IsLeastStorage, total_storage};
-ghost use Rattle.delay_net.specs.Certificate.{sum_at, FillsWidths, IsEven, sum_of_offsets, value_of, Fits};
+ghost use Rattle.delay_net.specs.Certificate.{sum_at, FillsWidths, IsEven, IsBalanced, sum_of_offsets, value_of, Fits};
 ghost use Rattle.delay_net.specs.End.{tensor_at};
 
 use crate::storing::storage;
@@ -77,6 +77,18 @@ fn is_even(net: &Net, hold: &[u32], need: &[u32]) -> bool
     true
 }
 
+/// Whether a certificate is balanced: the holds of the reads of each tensor that is read sum to its
+/// width, and at each tensor the holds where it reads and the needs where it is read are as many as
+/// the needs where it reads and its width, if it is read. There is one hold and one need for each
+/// read.
+pub fn is_balanced(net: &Net, hold: &[u32], need: &[u32]) -> bool
+    requires holds { length hold.now ≡ length net.now.reads }
+    requires needs { length need.now ≡ length net.now.reads }
+    ensures { IsTrue result ↔ IsBalanced net.now.weights net.now.reads hold.now need.now }
+{
+    fills_widths(net, hold) && is_even(net, hold, need)
+}
+
 // A number times an offset.
 fn product(number: u32, offset: i64) -> i128
     requires from { neg_ℤ (pos (2 ^ 42)) ≤ℤ offset }
@@ -148,5 +160,5 @@ pub fn check(net: &Net, delays: &[u64], flow: &Flow) -> bool
     let hold = flow.hold.as_slice();
     let need = flow.need.as_slice();
     let has_value = has_value(net, delays, hold, need);
-    has_value && fills_widths(net, hold) && is_even(net, hold, need)
+    has_value && is_balanced(net, hold, need)
 }

@@ -8,7 +8,7 @@ mod net;
 mod storing;
 mod timing;
 
-pub use certificate::check;
+pub use certificate::{check, is_balanced};
 pub use flow::{Amounts, Flow};
 pub use net::{Net, NoMemory, Read};
 pub use storing::{storage, storage_of};

@@ -1,6 +1,6 @@
 ghost use Rattle.std.specs.Prelude.{◌≡◌, IfOk};
 
-use crate::{Amounts, Flow, Net, Read, check, meets, storage, storage_of};
+use crate::{Amounts, Flow, Net, Read, check, is_balanced, meets, storage, storage_of};
 use std::alloc::{AllocError, Global};
 use std::test::Fail;
 
@@ -94,6 +94,8 @@ fn far(rt: HostRuntime) -> Result<(), Fail> {
     assert!(rt; !check(&net, &least, &unfilled));
     let uneven = flow(rt.alloc(), &[8, 0, 32], &[1, 8, 24])?;
     assert!(rt; !check(&net, &least, &uneven));
+    assert!(rt; is_balanced(&net, &[8, 0, 32], &[0, 8, 24]));
+    assert!(rt; !is_balanced(&net, &[8, 0, 32], &[1, 8, 24]));
     assert!(rt; !meets(&net, &[0, 1000, 999]));
     assert_eq!(rt; net.weights(), [8, 32, 32].as_slice());
     assert_eq!(rt; net.reads(), reads.as_slice());

@@ -6,6 +6,8 @@ pub mod SearchLemmas
 pub mod Slack
 pub mod Potential
 pub mod PlanLemmas
+pub mod LatticeLemmas
 pub mod ConserveLemmas
 pub mod MoveLemmas
 pub mod StartLemmas
+pub mod StepLemmas

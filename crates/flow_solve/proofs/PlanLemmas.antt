@@ -10,6 +10,7 @@ use Rattle.delay_net.specs.Windows.{total_storage}
 use Rattle.delay_net.specs.Certificate.{IsBalanced, Fits}
 use Rattle.delay_net.specs.declared.net.Read.{Read}
 use Rattle.delay_net.proofs.Duality.{fitting_is_least}
+use Rattle.flow_solve.specs.declared.arc.Arc.{Arc}
 use Rattle.flow_solve.specs.Walk.{at, IsArc, IsGraph, IsGreatestLength}
 use Rattle.flow_solve.specs.LeastPlan.{IsLeastPlan}
 use Rattle.flow_solve.specs.Residual.{residual, window_back, storage_back}
@@ -55,6 +56,12 @@ residual_graph weights reads hold need net = record {
   few_arcs = omega (arith, net.few_reads, residual_length (length weights) reads hold need);
   arcs = All-from_recursion (IsArc (length weights + length weights)) _ (residual_arcs weights reads hold need (recursion_from_All (IsReadOf weights) reads (λ k d lt. (net.order k d lt, net.offsets k d lt))));
 }
+
+pub graph_is : (weights : List ℕ) (reads : List Read) (hold need : List ℕ) (tensors : ℕ) (arcs : List Arc) → IsNet weights reads → tensors ≡ length weights
+    → arcs ≡ residual (length weights) reads hold need → IsGraph (2 * tensors) arcs
+graph_is weights reads hold need tensors arcs net count e =
+    let nodes : length weights + length weights ≡ 2 * tensors = omega arith in
+    subst (λ (g : List Arc). IsGraph (2 * tensors) g) (sym e) (subst (λ v. IsGraph v (residual (length weights) reads hold need)) nodes (residual_graph weights reads hold need net))
 
 -- the delays of the greatest lengths are the plan
 pub plan_is : (weights : List ℕ) (reads : List Read) (hold need delays : List ℕ) (lengths : List ℤ) → IsNet weights reads → IsBalanced weights reads hold need

@@ -3,3 +3,4 @@ pub mod Rounds
 pub mod LeastPlan
 pub mod Residual
 pub mod Conserve
+pub mod Steps

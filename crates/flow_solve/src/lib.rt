@@ -3,15 +3,20 @@
 
 mod arc;
 mod cycle;
+mod laws;
+mod proposal;
 mod residual;
 mod round;
+mod search;
 mod solver;
 mod start;
+mod steps;
 mod trace;
 mod unit;
 mod walks;
 
 pub use arc::{Arc, Longest};
+pub use laws::least_plans_meet;
 pub use solver::solve;
 pub use walks::longest;
 

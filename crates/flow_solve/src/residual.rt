@@ -7,7 +7,7 @@ use delay_net::{Net, NoMemory, Read};
 use std::alloc::Global;
 
 // The window of a read.
-fn window_arc(read: Read) -> Arc
+pub(crate) fn window_arc(read: Read) -> Arc
     ensures { result ≡ window_arc read }
 {
     Arc {
@@ -18,7 +18,7 @@ fn window_arc(read: Read) -> Arc
 }
 
 // The storage that a read needs, in a net of so many tensors.
-fn storage_arc(tensors: u32, read: Read) -> Arc
+pub(crate) fn storage_arc(tensors: u32, read: Read) -> Arc
     requires small { HasSmallOffset read }
     requires tensors { tensors + read.of < 2 ^ 32 }
     ensures { result ≡ storage_arc tensors read }
@@ -31,7 +31,7 @@ fn storage_arc(tensors: u32, read: Read) -> Arc
 }
 
 // The window back, where it is needed.
-fn window_back(read: Read, need: u32) -> Arc
+pub(crate) fn window_back(read: Read, need: u32) -> Arc
     requires small { HasSmallOffset read }
     ensures { result ≡ window_back read need }
 {
@@ -50,7 +50,7 @@ fn window_back(read: Read, need: u32) -> Arc
 }
 
 // The storage back, where it is held.
-fn storage_back(tensors: u32, read: Read, hold: u32) -> Arc
+pub(crate) fn storage_back(tensors: u32, read: Read, hold: u32) -> Arc
     requires tensors { tensors + read.of < 2 ^ 32 }
     ensures { result ≡ storage_back tensors read hold }
 {

@@ -1,8 +1,10 @@
 ghost use Rattle.std.specs.Prelude.{◌≡◌};
 ghost use Rattle.delay_net.specs.Shape.{IsNet};
 
-use crate::solve;
-use delay_net::{Net, Read};
+use crate::proposal::{Certificate, proposal};
+use crate::residual::residual;
+use crate::{Longest, longest, solve};
+use delay_net::{Net, Read, is_balanced};
 use std::alloc::Global;
 use std::process::Abort;
 use std::test::Fail;
@@ -27,6 +29,44 @@ fn expect_plan(
     let net = Net::new(alloc, weights, reads)?;
     let (found, _flow) = solve(alloc, &net)?;
     assert_eq!(rt; found.as_slice(), delays);
+    Ok(())
+}
+
+// What longest walks give is balanced, and leaves no closed walk of positive length, so that nothing
+// is left to be mended.
+fn expect_settled(
+    rt: &impl Abort,
+    alloc: Global,
+    weights: &[u8],
+    reads: &[Read],
+) -> Result<(), Fail>
+    requires { IsNet weights.now reads.now }
+{
+    let net = Net::new(alloc, weights, reads)?;
+    let Certificate { hold, need } = proposal(alloc, &net)?;
+    assert!(rt; is_balanced(&net, &hold, &need));
+    let nodes = 2 * net.weights().len() as u32;
+    let arcs = residual(alloc, &net, &hold, &need)?;
+    let found = longest(alloc, nodes, &arcs)?;
+    assert!(rt; matches!(found, Longest::Lengths(_)));
+    Ok(())
+}
+
+#[test]
+fn settled_at_once(rt: HostRuntime) -> Result<(), Fail> {
+    let reads = [
+        read(1, 0, -1),
+        read(2, 0, 2),
+        read(2, 0, 3),
+        read(3, 1, 3),
+        read(3, 2, -2),
+        read(3, 2, 2),
+    ];
+    expect_settled(&rt, rt.alloc(), &[2, 16, 1, 2], &reads)?;
+    let reads = [read(1, 0, 3), read(2, 0, 1), read(2, 1, 2), read(2, 1, -1)];
+    expect_settled(&rt, rt.alloc(), &[8, 3, 16], &reads)?;
+    let reads = [read(1, 0, 2), read(3, 0, -2), read(3, 2, 0)];
+    expect_settled(&rt, rt.alloc(), &[8, 1, 8, 3], &reads)?;
     Ok(())
 }
 

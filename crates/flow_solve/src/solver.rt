@@ -5,8 +5,9 @@ ghost use Rattle.delay_net.specs.Certificate.{Fits};
 ghost use Rattle.flow_solve.specs.Walk.{at};
 ghost use Rattle.flow_solve.specs.LeastPlan.{IsLeastPlan};
 
+use crate::proposal::Certificate;
 use crate::residual::residual;
-use crate::start::first_amounts;
+use crate::start::first_certificate;
 use crate::unit::send_around;
 use crate::{Longest, longest};
 use delay_net::{Amounts, Flow, Net, NoMemory};
@@ -19,13 +20,12 @@ pub fn solve(alloc: Global, net: &Net) -> Result<(Vec<u64>, Flow), NoMemory>
     ensures plan { IfOk result (λ found. IsLeastPlan net.now.weights net.now.reads found.0.items) }
     ensures one { IfOk result (λ found. (plan : List ℕ) → IsLeastPlan net.now.weights net.now.reads plan → plan ≡ found.0.items) }
     ensures fits { IfOk result (λ found. Fits net.now.weights net.now.reads found.0.items found.1.hold found.1.need) }
+    ensures holds { IfOk result (λ found. length found.1.hold ≡ length net.now.reads) }
+    ensures needs { IfOk result (λ found. length found.1.need ≡ length net.now.reads) }
     ensures short { IfOk result (λ found. HasShortDelays found.0.items) }
 {
     let tensors = net.weights().len() as u32;
-    let mut hold = first_amounts(alloc, net)?;
-    let Ok(mut need) = Vec::from_slice(alloc, &hold) else {
-        return Err(NoMemory);
-    };
+    let Certificate { mut hold, mut need } = first_certificate(alloc, net)?;
     loop {
         let arcs = residual(alloc, net, &hold, &need)?;
         match longest(alloc, 2 * tensors, &arcs)? {

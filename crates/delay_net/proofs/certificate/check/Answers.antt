@@ -3,8 +3,8 @@ use Rattle.delay_net.specs.Certificate.{Fits}
 use Rattle.delay_net.proofs.Duality.{fitting_is_least}
 use Rattle.delay_net.proofs.certificate.check.Goals as goal
 
-pub returns-then-fills_widths-clause-least : goal.returns-then-fills_widths-clause-least
-returns-then-fills_widths-clause-least c = λ yes.
+pub returns-then-has_value-clause-least : goal.returns-then-has_value-clause-least
+returns-then-has_value-clause-least c = λ yes.
     let net = c.args.net.now in
     let flow = c.args.flow.now in
     let fits : Fits net.weights net.reads c.args.delays.now flow.hold flow.need = search rules in

@@ -6,10 +6,10 @@ use Rattle.delay_net.specs.Windows.{at_least_0}
 use Rattle.delay_net.specs.Certificate.{Fits, value_of}
 use Rattle.flow_solve.specs.declared.arc.Arc.{Arc}
 use Rattle.flow_solve.specs.declared.arc.Longest.{Longest}
-use Rattle.flow_solve.specs.Walk.{at, IsGraph, IsSimple, TellsWalks, IsGreatestLength}
+use Rattle.flow_solve.specs.Walk.{at, IsSimple, TellsWalks, IsGreatestLength}
 use Rattle.flow_solve.specs.Residual.{residual}
 use Rattle.flow_solve.specs.LeastPlan.{IsLeastPlan}
-use Rattle.flow_solve.proofs.PlanLemmas.{plan_is, plan_one, residual_graph}
+use Rattle.flow_solve.proofs.PlanLemmas.{plan_is, plan_one, graph_is}
 use Rattle.flow_solve.proofs.Potential.{AreDelays}
 use Rattle.flow_solve.proofs.StartLemmas.{value_bound, value_within, room_falls}
 use Rattle.flow_solve.proofs.solver.solve.Goals as goal
@@ -21,12 +21,11 @@ longest-requires c =
     let n = length net.weights in
     let hold = c.loop-need.hold.items in
     let need = c.loop-need.need.items in
-    let arcs_is : c.deref-in-loop-need-3.result.now ≡ residual n net.reads hold need =
-    c.deref-in-loop-need-3.ensures.value ∙ c.in_ok-arcs.ensures
-    ∙ ap (λ (h : List ℕ). residual n net.reads h c.deref-in-loop-need-2.result.now) c.deref-in-loop-need.ensures.value
-    ∙ ap (λ (m : List ℕ). residual n net.reads hold m) c.deref-in-loop-need-2.ensures.value in
-    let nodes_are : n + n ≡ 2 * length c.weights.result.now = omega (arith, ap length c.weights.ensures.value) in
-    record { graph = subst (λ (g : List Arc). IsGraph (2 * length c.weights.result.now) g) (sym arcs_is) (subst (λ v. IsGraph v (residual n net.reads hold need)) nodes_are (residual_graph net.weights net.reads hold need c.weights.ensures.net)) }
+    let arcs_is : c.deref-in-loop-need-2.result.now ≡ residual n net.reads hold need =
+    c.deref-in-loop-need-2.ensures.value ∙ c.in_ok-arcs.ensures
+    ∙ ap (λ (h : List ℕ). residual n net.reads h c.deref-in-loop-need.result.now) c.deref.ensures.value
+    ∙ ap (λ (m : List ℕ). residual n net.reads hold m) c.deref-in-loop-need.ensures.value in
+    record { graph = graph_is net.weights net.reads hold need (length c.weights.result.now) c.deref-in-loop-need-2.result.now c.weights.ensures.net (ap length c.weights.ensures.value) arcs_is }
 
 found : (c : After-drop-arcs-in-Lengths) → IsLeastPlan c.args.net.now.weights c.args.net.now.reads c.in_ok-delays-in-Lengths.delays.items
     × Fits c.args.net.now.weights c.args.net.now.reads c.in_ok-delays-in-Lengths.delays.items c.loop-need.hold.items c.loop-need.need.items
@@ -36,15 +35,15 @@ found c =
     let hold = c.loop-need.hold.items in
     let need = c.loop-need.need.items in
     let lengths = c.in-Lengths.lengths.items in
-    let arcs_is : c.deref-in-loop-need-3.result.now ≡ residual n net.reads hold need =
-    c.deref-in-loop-need-3.ensures.value ∙ c.in_ok-arcs.ensures
-    ∙ ap (λ (h : List ℕ). residual n net.reads h c.deref-in-loop-need-2.result.now) c.deref-in-loop-need.ensures.value
-    ∙ ap (λ (m : List ℕ). residual n net.reads hold m) c.deref-in-loop-need-2.ensures.value in
+    let arcs_is : c.deref-in-loop-need-2.result.now ≡ residual n net.reads hold need =
+    c.deref-in-loop-need-2.ensures.value ∙ c.in_ok-arcs.ensures
+    ∙ ap (λ (h : List ℕ). residual n net.reads h c.deref-in-loop-need.result.now) c.deref.ensures.value
+    ∙ ap (λ (m : List ℕ). residual n net.reads hold m) c.deref-in-loop-need.ensures.value in
     let size : length c.weights.result.now ≡ n = ap length c.weights.ensures.value in
     let nodes_are : 2 * length c.weights.result.now ≡ n + n = omega (arith, size) in
-    let told = subst (λ (l : Longest). TellsWalks (2 * length c.weights.result.now) c.deref-in-loop-need-3.result.now l) c.in-Lengths.is c.in_ok-lengths.ensures.told in
+    let told = subst (λ (l : Longest). TellsWalks (2 * length c.weights.result.now) c.deref-in-loop-need-2.result.now l) c.in-Lengths.is c.in_ok-lengths.ensures.told in
     let greatest = subst (λ (g : List Arc). (v : ℕ) → v < n + n → IsGreatestLength (n + n) g v (at lengths v)) arcs_is
-    (subst (λ (m : ℕ). (v : ℕ) → v < m → IsGreatestLength m c.deref-in-loop-need-3.result.now v (at lengths v)) nodes_are told.1) in
+    (subst (λ (m : ℕ). (v : ℕ) → v < m → IsGreatestLength m c.deref-in-loop-need-2.result.now v (at lengths v)) nodes_are told.1) in
     let delays = c.in_ok-delays-in-Lengths.delays.items in
     let values = subst (λ (l : List ℤ). (t : ℕ) → t < length c.weights.result.now → at l t ≡ pos (slice_index delays t)) c.deref-in-Lengths.ensures.value c.in_ok-delays-in-Lengths.ensures.value in
     let are : AreDelays (at lengths) n delays = (c.in_ok-delays-in-Lengths.ensures.size ∙ size, λ t lt. values t (omega arith)) in
