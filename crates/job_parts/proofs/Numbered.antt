@@ -2,7 +2,7 @@
 use Rattle.std.proofs.Common.{◌≡◌, ◌<◌, ℕ, zero, suc, true, false, List, [], ◌∷◌, length, get_or, Option, Some, None, MatchOption, sym, ap, ◌∙◌, arith, String, string_bytes}
 use Rattle.std.specs.Fmt.{decimal}
 use Rattle.std.specs.Global.{Global}
-use Rattle.job_parts.specs.Scan.{is_number, value_behind}
+use Rattle.soda_words.specs.Tokens.{is_number, value_behind}
 use Rattle.job_parts.specs.Words.{IsNumberWord, word}
 use Rattle.job_parts.proofs.Spelled.{number_is, number_written}
 

@@ -6,8 +6,9 @@ use Rattle.std.proofs.lemmas.Bool.{eqb-true}
 use Rattle.std.proofs.lemmas.Fmt.{decimal-digits_value, decimal_digit, decimal_nonempty, digits_decimal, digits_value-decimal, first_decimal}
 use Rattle.std.proofs.lemmas.Str.Parse.{IsNumeralModel, numerals_by_fold}
 use borrow.Author.Tests.{ltb-true, lt-ltb}
-use Rattle.soda_ir.specs.Names.{behind, begins_name, is_digit, is_name, is_some_digits, is_word_byte}
-use Rattle.job_parts.specs.Scan.{◌>>=◌, begins_with_zero, front_of, is_number, name_at, number_at, rest_of, value_behind}
+use Rattle.soda_words.specs.Names.{behind, begins_name, is_digit, is_some_digits, is_word_byte}
+use Rattle.soda_words.specs.Tokens.{begins_with_zero, is_number, value_behind}
+use Rattle.job_parts.specs.Scan.{◌>>=◌, front_of, number_at, rest_of}
 
 pub both : (a b : Bool) → a ≡ true → b ≡ true → (a && b) ≡ true
 both true b p q = q
@@ -32,6 +33,13 @@ bind_is r f x e = ap (λ o. o >>= f) e
 pub if_some : {A : Type 0} (b : Bool) (x y : A) → (if b then Some x else None) ≡ Some y → (b ≡ true) × (x ≡ y)
 if_some true x y e = (refl, cc)
 if_some false x y e = cc
+
+pub if_takes : {A : Type 0} (b : Bool) (r : Option A) (y : A) → (if b then r else None) ≡ Some y → (b ≡ true) × (r ≡ Some y)
+if_takes true r y e = (refl, e)
+if_takes false r y e = cc
+
+pub some_inj : {A : Type 0} {x y : A} → Some x ≡ Some y → x ≡ y
+some_inj e = cc
 
 -- a front that is known
 pub behind_takes : (p bs r : List ℕ) → behind p bs ≡ Some r → bs ≡ p ++ r
@@ -81,27 +89,6 @@ or_first false b e = cc
 or_second : (a b : Bool) → b ≡ true → (a || b) ≡ true
 or_second true b e = refl
 or_second false b e = e
-
--- names
-name_words : (x : List ℕ) → is_name x ≡ true → list_all is_word_byte x ≡ true
-name_words [] h = refl
-name_words (b ∷ bs) h =
-    let l = first (begins_name b && list_all is_word_byte bs) (nat_lt (length bs) 64) h in
-    both (begins_name b || is_digit b) (list_all is_word_byte bs) (or_first (begins_name b) (is_digit b) (first (begins_name b) (list_all is_word_byte bs) l)) (second (begins_name b) (list_all is_word_byte bs) l)
-
-pub name_takes : (bs : List ℕ) (x : List ℕ × List ℕ) → name_at bs ≡ Some x → (bs ≡ x.0 ++ x.1) × (is_name x.0 ≡ true)
-unfolding name_at
-name_takes bs x e =
-    let h = if_some (is_name (front_of bs)) (front_of bs, rest_of bs) x e in
-    let P : List ℕ × List ℕ → Type 0 = λ y. (bs ≡ y.0 ++ y.1) × (is_name y.0 ≡ true) in
-    subst P h.1 (front_rest bs, h.0)
-
-pub name_again : (x r : List ℕ) → is_name x ≡ true → Stops r → name_at (x ++ r) ≡ Some (x, r)
-unfolding name_at
-name_again x r h s =
-    ap (λ (f : List ℕ). if is_name f then Some (f, rest_of (x ++ r)) else None) (front_again x r (name_words x h) s)
-    ∙ ap (λ (z : List ℕ). if is_name x then Some (x, z) else None) (rest_again x r (name_words x h) s)
-    ∙ ap (λ t. if t then Some (x, r) else None) h
 
 -- numbers
 pub own : IsNumeralModel (λ ds. list_all is_digit ds ≡ true) (value_behind 0)

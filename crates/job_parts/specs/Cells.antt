@@ -1,7 +1,7 @@
 -- The text of an array, and the cells that are read from one of the form that is built so far.
 use Rattle.std.specs.Prelude.{◌≡◌, ℕ, zero, suc, ◌+◌, ◌%◌, ◌==◌, nat_le, List, [], ◌∷◌, ◌++◌, length, Option, Some, None, ℤ, pos, if◌then◌else◌}
 use Rattle.std.specs.Fmt.{signed_decimal}
-use Rattle.soda_ir.specs.Names.{behind}
+use Rattle.soda_words.specs.Names.{behind}
 use Rattle.soda_ir.specs.Program.{IsArray, PlainProgram}
 use Rattle.soda_ir.specs.Sums.{uint8}
 use Rattle.job_parts.specs.Scan.{◌>>=◌, number_at}

@@ -3,7 +3,7 @@ use Rattle.std.specs.Prelude.{◌≡◌, ◌≢◌, ℕ, zero, suc, ◌<◌, ◌
 use Rattle.std.specs.Fmt.{decimal}
 use Rattle.std.specs.List.{list_any}
 use Rattle.std.specs.Global.{Global}
-use Rattle.soda_ir.specs.Names.{is_word}
+use Rattle.soda_words.specs.Names.{is_word}
 use Rattle.job_parts.specs.declared.words.Words.{Words}
 use Rattle.job_parts.specs.declared.words.Words.TheVariants.{Plain, Unbuilt, Untaken}
 

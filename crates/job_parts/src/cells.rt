@@ -2,7 +2,8 @@ ghost use Rattle.std.specs.Prelude.{◌≡◌, ◌≤◌, ◌<◌, ◌^◌, ◌+
 ghost use Rattle.job_parts.specs.Cells.{AreCells, all_cells_at, array_text, cell_line_at};
 
 use crate::scan::number_at;
-use soda_ir::{NoMemory, behind};
+use soda_ir::NoMemory;
+use soda_words::behind;
 use sqlite_items::Items;
 use std::alloc::Global;
 

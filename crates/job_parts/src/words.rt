@@ -2,8 +2,7 @@ ghost use Rattle.std.specs.Prelude.{◌≡◌, ◌≢◌, ◌<◌, ◌↔◌, tr
 ghost use Rattle.std.specs.Fmt.{decimal};
 ghost use Rattle.job_parts.specs.Words.{ArePlainWords, AreRead, IsNumberWord, IsPlain, TakesWords, is_mode, word};
 
-use crate::scan::number;
-use soda_ir::is_word;
+use soda_words::{is_word, number};
 
 /// What the words behind the program's name ask for.
 #[derive(Drop)]

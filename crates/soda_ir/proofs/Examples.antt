@@ -1,4 +1,4 @@
--- The definitions at small programs and words, by computation.
+-- The definitions at small programs, by computation.
 use Rattle.std.proofs.Common.{◌≡◌, ℕ, true, false, List, [], ◌∷◌, Some, None, ℤ, pos, negsuc, codes, replicate, refl}
 use Rattle.int_types.specs.IntType.{IntType, wrapped}
 use Rattle.int_types.specs.Operators.{int32, binary_value}
@@ -9,10 +9,9 @@ use Rattle.soda_ir.specs.declared.program.Role.TheVariants.{Input, Local, Output
 use Rattle.soda_ir.specs.Arrays.{cell, in_region, whole}
 use Rattle.soda_ir.specs.Examples.{at, three, sum3}
 use Rattle.soda_ir.specs.Formula.{Formula, number, read, param, binary, cast}
-use Rattle.soda_ir.specs.Names.{is_name, is_reserved, is_free_name}
 use Rattle.soda_ir.specs.Points.{listed, point}
 use Rattle.soda_ir.specs.Program.{PlainProgram, PlainTensor, PlainParam, defined_arrays, stencil_of}
-use Rattle.soda_ir.specs.Sums.{uint8, input_of, output_of, sum_program}
+use Rattle.soda_ir.specs.Sums.{uint8, input_of, output_of}
 
 abbrev naturals : List ℕ → List ℤ
 naturals [] = []
@@ -34,7 +33,7 @@ sum3_nothing : defined_arrays sum3 0 [] ([] ∷ []) ≡ [] ∷ []
 sum3_nothing = refl
 
 -- a program of these tensors
-abbrev of_tensors : ℕ → Border → List ℕ → List PlainParam → List PlainTensor → PlainProgram
+abbrev pub of_tensors : ℕ → Border → List ℕ → List PlainParam → List PlainTensor → PlainProgram
 of_tensors iterate border extents params tensors = record {
   kernel = codes "k";
   burst = 8;
@@ -47,11 +46,11 @@ of_tensors iterate border extents params tensors = record {
 }
 
 -- one output over one input of bytes
-abbrev over_bytes : ℕ → Border → List ℕ → Formula → PlainProgram
+abbrev pub over_bytes : ℕ → Border → List ℕ → Formula → PlainProgram
 over_bytes iterate border extents f =
     of_tensors iterate border extents [] (input_of (codes "a") ∷ output_of (codes "o") f ∷ [])
 
-abbrev average : Formula
+abbrev pub average : Formula
 average = binary Div three (number 3)
 
 average_cells : defined_arrays (over_bytes 1 Ignore [] average) 5 [] five ≡ naturals (0 ∷ 2 ∷ 4 ∷ 9 ∷ 0 ∷ []) ∷ []
@@ -88,10 +87,10 @@ unfolding cell in_region binary_value wrapped
 two_lines = refl
 
 -- a local between, whose region bounds the output's
-abbrev products : PlainTensor
+abbrev pub products : PlainTensor
 products = record { name = codes "t"; ty = int32; role = Local; formula = Some (binary Mul (at (pos 0)) (at (pos 1))) }
 
-abbrev pairs : PlainTensor
+abbrev pub pairs : PlainTensor
 pairs = output_of (codes "o") (binary Add (read 1 (pos 0 ∷ [])) (read 1 (pos 1 ∷ [])))
 
 local_between : defined_arrays (of_tensors 1 Ignore [] [] (input_of (codes "a") ∷ products ∷ pairs ∷ [])) 5 [] five ≡ naturals (10 ∷ 40 ∷ 160 ∷ 0 ∷ 0 ∷ []) ∷ []
@@ -111,9 +110,3 @@ scaled = record { name = codes "o"; ty = int16; role = Output; formula = Some (b
 scaled_cells : defined_arrays (of_tensors 1 Ignore [] (record { name = codes "c"; ty = int16; sizes = 2 ∷ [] } ∷ []) (wide_input ∷ scaled ∷ [])) 2 (pos 3 ∷ negsuc 1 ∷ []) (naturals (5 ∷ 7 ∷ []) ∷ []) ≡ (negsuc 9 ∷ negsuc 13 ∷ []) ∷ []
 unfolding cell in_region binary_value wrapped
 scaled_cells = refl
-
-names : (is_name (codes "_x9") ≡ true) × (is_name (codes "9x") ≡ false) × (is_name (codes "a-b") ≡ false) × (is_name [] ≡ false) × (is_name (replicate 64 97) ≡ true) × (is_name (replicate 65 97) ≡ false)
-names = (refl, refl, refl, refl, refl, refl)
-
-reserved : (is_reserved (codes "int7") ≡ true) × (is_reserved (codes "int") ≡ false) × (is_reserved (codes "uint64") ≡ true) × (is_reserved (codes "float") ≡ true) × (is_reserved (codes "half2") ≡ true) × (is_reserved (codes "doubles") ≡ false) × (is_reserved (codes "select") ≡ true) × (is_reserved (codes "maximum") ≡ false) × (is_free_name (codes "input") ≡ true) × (is_free_name (codes "abs") ≡ false)
-reserved = (refl, refl, refl, refl, refl, refl, refl, refl, refl, refl)

@@ -4,9 +4,9 @@ use Rattle.int_types.specs.IntType.{IntType}
 use Rattle.int_types.specs.declared.operators.UnOp.{UnOp}
 use Rattle.int_types.specs.declared.operators.BinOp.{BinOp}
 use Rattle.arrayvec.specs.ArrayVec.{ArrayVec}
-use Rattle.soda_ir.specs.declared.expr.Expr.{Expr, Num, Cell, Un, Bin, Select, Cast, the_lemmas}
+use Rattle.soda_ir.specs.declared.expr.Expr.{Expr, Num, Cell, Par, Un, Bin, Select, Cast, the_lemmas}
 use Rattle.soda_ir.specs.declared.expr.Expr.TheBlock.{hidden-the_row-Expr-0}
-use Rattle.soda_ir.specs.Formula.{number, read, unary, binary, choice, cast}
+use Rattle.soda_ir.specs.Formula.{number, read, param, unary, binary, choice, cast}
 use Rattle.soda_ir.specs.Tree.{formula_of, part_of}
 use denote.Hole.Carrier.{hidden}
 
@@ -17,6 +17,10 @@ formula_of-Num n = refl
 pub formula_of-Cell : (t : ℕ) (o : ArrayVec ℤ) → formula_of (Cell t o) ≡ read t o.items
 unfolding formula_of
 formula_of-Cell t o = refl
+
+pub formula_of-Par : (p k : ℕ) → formula_of (Par p k) ≡ param p k
+unfolding formula_of
+formula_of-Par p k = refl
 
 pub formula_of-Un : (op : UnOp) (a : Expr) → formula_of (Un op a) ≡ unary op (formula_of a)
 unfolding formula_of part_of hidden-the_row-Expr-0 hidden
@@ -35,4 +39,4 @@ unfolding formula_of part_of hidden-the_row-Expr-0 hidden
 formula_of-Cast t a = refl
 
 pub ruleset levels =
-    (formula_of-Num, formula_of-Cell, formula_of-Un, formula_of-Bin, formula_of-Select, formula_of-Cast, the_lemmas)
+    (formula_of-Num, formula_of-Cell, formula_of-Par, formula_of-Un, formula_of-Bin, formula_of-Select, formula_of-Cast, the_lemmas)

@@ -5,10 +5,10 @@ use Rattle.int_types.specs.IntType.{IntType, wrapped}
 use Rattle.int_types.specs.declared.operators.UnOp.{UnOp}
 use Rattle.int_types.specs.declared.operators.BinOp.{BinOp}
 use Rattle.int_types.specs.Operators.{unary_value, binary_value, select_value}
-use Rattle.soda_ir.specs.declared.expr.Expr.{Expr, Cell, Un, Bin, Select, Cast}
-use Rattle.soda_ir.specs.Formula.{Scope, Values, Formula, typed, valued, IsReadable, read, unary, binary, choice, cast}
+use Rattle.soda_ir.specs.declared.expr.Expr.{Expr, Cell, Par, Un, Bin, Select, Cast}
+use Rattle.soda_ir.specs.Formula.{Scope, Values, Formula, typed, valued, IsReadable, read, param, unary, binary, choice, cast}
 use Rattle.soda_ir.specs.Tree.{formula_of}
-use Rattle.soda_ir.proofs.Tree.{formula_of-Cell, formula_of-Un, formula_of-Bin, formula_of-Select, formula_of-Cast}
+use Rattle.soda_ir.proofs.Tree.{formula_of-Cell, formula_of-Par, formula_of-Un, formula_of-Bin, formula_of-Select, formula_of-Cast}
 
 -- what a formula reads is one of the tensors
 pub read_known : (s : Scope) (cells : Values) (params : List ℤ) (e : Expr) (t : ℕ) (o : ArrayVec ℤ) → e ≡ Cell t o → IsReadable s cells params (formula_of e) → t < length s.tensors
@@ -16,6 +16,12 @@ read_known s cells params e t o h r =
     let P : Formula → Type 0 = λ f. IsReadable s cells params f in
     let q : IsReadable s cells params (read t o.items) = subst P (ap formula_of h ∙ formula_of-Cell t o) r in
     q.0
+
+-- a param's value is one of those of the params
+pub value_known : (s : Scope) (cells : Values) (params : List ℤ) (e : Expr) (q k : ℕ) → e ≡ Par q k → IsReadable s cells params (formula_of e) → IsReadable s cells params (param q k)
+value_known s cells params e q k h r =
+    let P : Formula → Type 0 = λ f. IsReadable s cells params f in
+    subst P (ap formula_of h ∙ formula_of-Par q k) r
 
 module _ (s : Scope) (cells : Values) (params : List ℤ) where
   pub un_step : (e a r : Expr) (op : UnOp) (t : IntType) (v x : ℤ) → e ≡ Un op a → r ≡ a → t ≡ typed s (formula_of r) → v ≡ valued s cells params (formula_of r) → x ≡ unary_value op t v → x ≡ valued s cells params (formula_of e)

@@ -1,5 +1,5 @@
 -- A small program, on which the definitions and the calls are tried.
-use Rattle.std.specs.Prelude.{◌≡◌, List, [], ◌∷◌, ℤ, pos, negsuc, codes}
+use Rattle.std.specs.Prelude.{[], ◌∷◌, ℤ, pos, negsuc, codes}
 use Rattle.int_types.specs.declared.operators.BinOp.TheVariants.{Add}
 use Rattle.soda_ir.specs.Formula.{Formula, read, binary}
 use Rattle.soda_ir.specs.Program.{PlainProgram}

@@ -3,6 +3,9 @@ pub mod Tree
 pub mod Points
 pub mod Arrays
 pub mod Program
-pub mod Names
+pub mod Written
+pub mod Uses
+pub mod Counts
+pub mod Valid
 pub mod Sums
 pub mod Examples

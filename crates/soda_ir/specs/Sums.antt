@@ -1,12 +1,14 @@
 -- The programs that are built so far: a sum of cells of one input, in one dimension.
-use Rattle.std.specs.Prelude.{◌≡◌, ◌≢◌, ℕ, ◌+◌, ◌%◌, ◌≤◌, true, false, List, [], ◌∷◌, Some, None, ℤ, unsigned_abs}
+use Rattle.std.specs.Prelude.{◌≡◌, ◌≢◌, ℕ, ◌+◌, ◌%◌, ◌≤◌, Bool, true, false, not, ◌&&◌, ◌==◌, nat_le, List, [], ◌∷◌, length, Some, None, ℤ, unsigned_abs}
 use Rattle.int_types.specs.IntType.{IntType}
+use Rattle.int_types.specs.declared.operators.BinOp.{BinOp}
 use Rattle.int_types.specs.declared.operators.BinOp.TheVariants.{Add, Sub}
 use Rattle.soda_ir.specs.declared.program.Border.TheVariants.{Ignore}
 use Rattle.soda_ir.specs.declared.program.Role.TheVariants.{Input, Output}
 use Rattle.soda_ir.specs.Formula.{Formula, number, read, param, unary, binary, choice, cast}
-use Rattle.soda_ir.specs.Names.{is_free_name, is_name}
-use Rattle.soda_ir.specs.Program.{PlainProgram, PlainTensor}
+use Rattle.soda_words.specs.Names.{is_free_name, is_name}
+use Rattle.soda_ir.specs.Counts.{is_input_role, is_output_role}
+use Rattle.soda_ir.specs.Program.{PlainProgram, PlainTensor, preserves}
 
 abbrev pub uint8 : IntType
 uint8 = record { signed = false; bits = 8 }
@@ -86,3 +88,59 @@ pub record IsSumProgram (p : PlainProgram) : Type 0 where
   pub names : AreNames input output
   pub sum : IsSum formula
   pub few : cell_count formula ≤ 300
+
+-- one component, of magnitude at most 32,768, as a test
+abbrev pub is_one_near : List ℤ → Bool
+is_one_near [] = false
+is_one_near (d ∷ []) = nat_le (unsigned_abs d) 32768
+is_one_near (d ∷ e ∷ ds) = false
+
+-- a cell of the input, as a test
+abbrev pub is_cell : Formula → Bool
+is_cell (number n) = false
+is_cell (read t o) = t == 0 && is_one_near o
+is_cell (param p k) = false
+is_cell (unary op a) = false
+is_cell (binary op a b) = false
+is_cell (choice c a b) = false
+is_cell (cast t a) = false
+
+-- a sum or a difference
+abbrev pub is_sum_operator : BinOp → Bool
+is_sum_operator Add = true
+is_sum_operator Sub = true
+is_sum_operator _ = false
+
+-- cells of the input, added and subtracted from the left, as a test
+abbrev pub is_sum : Formula → Bool
+is_sum (number n) = false
+is_sum (read t o) = t == 0 && is_one_near o
+is_sum (param p k) = false
+is_sum (unary op a) = false
+is_sum (binary op a b) = is_sum_operator op && is_sum a && is_cell b
+is_sum (choice c a b) = false
+is_sum (cast t a) = false
+
+-- bytes without a sign
+abbrev pub is_uint8 : IntType → Bool
+is_uint8 t = not t.signed && t.bits == 8
+
+-- an input of bytes
+abbrev pub is_sum_input : PlainTensor → Bool
+is_sum_input t = is_input_role t.role && is_uint8 t.ty
+
+-- an output of bytes that is a sum of few cells
+abbrev pub is_sum_output : PlainTensor → Bool
+is_sum_output t =
+    is_output_role t.role && is_uint8 t.ty && elim t.formula [ None ↦ false | Some f ↦ is_sum f && nat_le (cell_count f) 300 ]
+
+-- an input, and an output that is a sum
+abbrev pub are_sum_tensors : List PlainTensor → Bool
+are_sum_tensors [] = false
+are_sum_tensors (i ∷ []) = false
+are_sum_tensors (i ∷ o ∷ []) = is_sum_input i && is_sum_output o
+are_sum_tensors (i ∷ o ∷ t ∷ ts) = false
+
+-- one iteration over one dimension, with no param
+abbrev pub has_sum_frame : PlainProgram → Bool
+has_sum_frame p = p.iterate == 1 && not (preserves p) && length p.params == 0 && length p.extents == 0

@@ -18,6 +18,13 @@ pub enum Expr {
         /// The offset, with a component for each dimension.
         offset: Offset,
     },
+    /// A param's value. Params are numbered in text order.
+    Par {
+        /// The param's number.
+        param: u32,
+        /// The place of the value among those of the param, with the last index changing fastest.
+        place: u32,
+    },
     /// An operator of one operand.
     Un(UnOp, Boxed<Expr>),
     /// An operator of two operands.

@@ -26,6 +26,7 @@ pub fn plain_cell(
     tensor: u32,
     place: u64,
 ) -> i128
+    requires sums { IsSumProgram (plain program.now) }
     requires small { cells_at (plain program.now) rows ≤ 2 ^ 24 }
     requires arrays { (f : Formula) → formula_at (stencil_of (plain program.now) rows) tensor ≡ Some f
         → Each (λ t o. IsArray (slice_index_or (scope_of (plain program.now)).tensors t int32) (cells_at (plain program.now) rows) (slice_index_or arrays.now t [])) f }
@@ -48,6 +49,7 @@ pub fn plain_cell(
 
 // The output's formula.
 fn sum_of(program: &Program) -> &Expr
+    requires { IsSumProgram (plain program.now) }
     ensures { (s : IsSumProgram (plain program.now)) → s.formula ≡ formula_of result.now }
 {
     match program.parts().formula(1) {
@@ -64,6 +66,7 @@ fn cell_at(
     params: &[i128],
     place: u64,
 ) -> i128
+    requires sums { IsSumProgram (plain program.now) }
     requires small { cells_at (plain program.now) rows ≤ 2 ^ 24 }
     requires inputs { HasArrays (cells_at (plain program.now) rows) (input_types (plain program.now).tensors) inputs.now }
     requires params { HasValues (place_types (plain program.now).params) params.now }
@@ -90,12 +93,12 @@ fn output_array(
     inputs: &[Items<i128>],
     params: &[i128],
 ) -> Result<Items<i128>, NoMemory>
+    requires sums { IsSumProgram (plain program.now) }
     requires small { cells_at (plain program.now) rows ≤ 2 ^ 24 }
     requires inputs { HasArrays (cells_at (plain program.now) rows) (input_types (plain program.now).tensors) inputs.now }
     requires params { HasValues (place_types (plain program.now).params) params.now }
     ensures { IfOk result (λ out. out ∷ [] ≡ defined_arrays (plain program.now) rows params.now inputs.now) }
 {
-    let _valid = program.parts();
     let mut cells = Vec::new(alloc);
     for place in 0..rows {
         cells.push(cell_at(program, rows, inputs, params, place))?;
@@ -112,6 +115,7 @@ pub fn plain_run(
     inputs: &[Items<i128>],
     params: &[i128],
 ) -> Result<Vec<Items<i128>>, NoMemory>
+    requires sums { IsSumProgram (plain program.now) }
     requires small { cells_at (plain program.now) rows ≤ 2 ^ 24 }
     requires inputs { HasArrays (cells_at (plain program.now) rows) (input_types (plain program.now).tensors) inputs.now }
     requires params { HasValues (place_types (plain program.now).params) params.now }

@@ -1,12 +1,18 @@
-ghost use Rattle.std.specs.Prelude.{◌≡◌, ◌<◌, length, map, option_map, slice_index_or};
+ghost use Rattle.std.specs.Prelude.{◌≡◌, ◌+◌, ◌^◌, ◌<◌, length, map, min, option_map, pos, slice_index_or, IfOk};
 ghost use Rattle.int_types.specs.Operators.{int32};
+ghost use Rattle.soda_ir.specs.Counts.{is_input, is_output};
 ghost use Rattle.soda_ir.specs.Program.{plain, scope_of};
 ghost use Rattle.soda_ir.specs.Tree.{formula_of};
-ghost use Rattle.soda_ir.specs.Sums.{IsSumProgram};
+ghost use Rattle.soda_ir.specs.Valid.{IsValid};
+ghost use Rattle.soda_ir.specs.Written.{index_count};
 
 use crate::expr::Expr;
+use crate::make::{MakeRefusal, is_valid};
+use crate::params::{first_params, value_count};
+use crate::uses;
 use int_types::Ty;
 use sqlite_items::Items;
+use std::alloc::Global;
 use std::marker::Model;
 
 /// A table of values that formulas read. Its place counts with the last index changing fastest.
@@ -90,32 +96,100 @@ impl Model for Program {
     ghost coded = { Prim.hlevel (codes, e.the_row.coded) };
 
     ghost use Rattle.soda_ir.specs.Program.{plain};
-    ghost use Rattle.soda_ir.specs.Sums.{IsSumProgram};
+    ghost use Rattle.soda_ir.specs.Valid.{IsValid};
 
     ghost view = { λ p. p.parts };
 
-    ghost invariant = { λ p. IsSumProgram (plain p.parts) };
+    ghost invariant = { λ p. IsValid (plain p.parts) };
 }
 
 impl Program {
-    /// The program of these parts, which are those of a sum over one input of one dimension.
-    pub fn of_sum(parts: Parts) -> Program
-        requires { IsSumProgram (plain parts) }
-        ensures { result ≡ parts }
+    /// The program of these parts. `Invalid` comes exactly where they are no valid program; a refusal lets the parts go.
+    pub fn make(alloc: Global, parts: Parts) -> Result<Program, MakeRefusal>
+        ensures made { IfOk result (λ program. program ≡ parts) }
+        ensures valid { IfOk result (λ program. IsValid (plain program)) }
+        ensures invalid { result ≡ Err MakeRefusal.Invalid → IsValid (plain parts) → ⊥ }
     {
-        Program { parts }
+        if is_valid(alloc, &parts)? {
+            Ok(Program { parts })
+        } else {
+            Err(MakeRefusal::Invalid)
+        }
     }
 
     /// What the program is made of.
     pub fn parts(&self) -> &Parts
         ensures value { result.now ≡ self.now }
-        ensures valid { IsSumProgram (plain self.now) }
+        ensures valid { IsValid (plain self.now) }
     {
         &self.parts
     }
 }
 
 impl Parts {
+    /// How many indexes a param has, and 0 past the last param.
+    pub(crate) fn index_count(&self, param: u32) -> u64
+        ensures { result ≡ index_count (plain self.now) param }
+    {
+        match self.params.get(param as usize) {
+            Some(param) => param.sizes.len() as u64,
+            None => 0,
+        }
+    }
+
+    /// The type of a param.
+    pub(crate) fn param_type(&self, param: u32) -> Ty
+        requires { param < length self.now.params }
+        ensures { result ≡ slice_index_or (scope_of (plain self.now)).params param int32 }
+    {
+        self.params.as_slice()[param as usize].ty
+    }
+
+    // Where a param's values begin, among the values of all params.
+    #[tactic(auto, using(crate::proofs::Starts::starts_behind))]
+    fn start_of(&self, param: u32) -> u128
+        requires { param < length self.now.params }
+        ensures { result ≡ min (slice_index_or (scope_of (plain self.now)).starts param 0) (2 ^ 64) }
+    {
+        value_count(first_params(self.params.as_slice(), param as usize))
+    }
+
+    /// The value of a param at a place, among the values of all params.
+    pub(crate) fn param_value(&self, values: &[i128], param: u32, place: u32) -> i128
+        requires there { param < length self.now.params }
+        requires within { slice_index_or (scope_of (plain self.now)).starts param 0 + place < length values.now }
+        ensures { result ≡ slice_index_or values.now (slice_index_or (scope_of (plain self.now)).starts param 0 + place) (pos 0) }
+    {
+        let start = self.start_of(param);
+        let many = values.len();
+        let at = start + place as u128;
+        if at < many as u128 {
+            values[at as usize]
+        } else {
+            unreachable!()
+        }
+    }
+
+    /// Whether the tensor is an input.
+    pub(crate) fn is_input(&self, tensor: u32) -> bool
+        ensures { result ≡ is_input (plain self.now) tensor }
+    {
+        match self.tensors.get(tensor as usize) {
+            Some(tensor) => uses::is_input(tensor.role),
+            None => false,
+        }
+    }
+
+    /// Whether the tensor is an output.
+    pub(crate) fn is_output(&self, tensor: u32) -> bool
+        ensures { result ≡ is_output (plain self.now) tensor }
+    {
+        match self.tensors.get(tensor as usize) {
+            Some(tensor) => uses::is_output(tensor.role),
+            None => false,
+        }
+    }
+
     /// The type of a tensor.
     pub(crate) fn tensor_type(&self, tensor: u32) -> Ty
         requires { tensor < length self.now.tensors }

@@ -62,7 +62,7 @@ pub(crate) fn is_inside(expr: &Expr, extents: &[u64], place: u64) -> bool
     ensures { result ≡ every (λ t o. in_box extents.now (moved (point extents.now place) o)) (formula_of expr.now) }
 {
     match expr {
-        Expr::Num(_) => true,
+        Expr::Num(_) | Expr::Par { .. } => true,
         Expr::Cell { offset, .. } => target(extents, place, offset.as_slice()).is_some(),
         Expr::Un(_, a) => is_inside(a.get(), extents, place),
         Expr::Bin(_, a, b) => is_inside(a.get(), extents, place)

@@ -90,12 +90,12 @@ fn three(alloc: Global) -> Result<Expr, NoMemory>
 }
 
 // The program of that sum.
-fn sum3(alloc: Global) -> Result<Program, NoMemory>
+fn sum3(alloc: Global) -> Result<Program, MakeRefusal>
     ensures { IfOk result (λ p. plain p ≡ sum3) }
 {
     let sum = three(alloc)?;
     let parts = parts(alloc, sum)?;
-    Ok(Program::of_sum(parts))
+    Ok(Program::make(alloc, parts)?)
 }
 
 const CASES: [([i128; 5], [i128; 5]); 3] = [
@@ -157,29 +157,15 @@ fn formulas_by_any_cells(rt: HostRuntime) -> Result<(), Fail> {
 }
 
 #[test]
-fn words(rt: HostRuntime) {
-    for (word, named, reserved) in [
-        ("_x9", true, false),
-        ("input", true, false),
-        ("int", true, false),
-        ("maximum", true, false),
-        ("uint64", true, true),
-        ("float", true, true),
-        ("select", true, true),
-        ("9x", false, false),
-        ("a-b", false, false),
-        ("", false, false),
-    ] {
-        let bytes = word.as_bytes();
-        assert_eq!(rt; is_name(bytes), named, "{word}");
-        assert_eq!(rt; is_reserved(bytes), reserved, "{word}");
-        assert_eq!(rt; is_free_name(bytes), named && !reserved, "{word}");
-    }
-    assert!(rt; is_name(&[97; 64]));
-    assert!(rt; !is_name(&[97; 65]));
-    assert!(rt; is_word(b"abs", b"abs") && !is_word(b"abs", b"absent"));
-    assert!(rt; is_some_digits(b"007") && !is_some_digits(b"") && !is_some_digits(b"7a"));
-    assert!(rt; is_word_byte(b'_') && !is_word_byte(b'-'));
-    assert_eq!(rt; behind(b"int", b"int7"), Some(b"7".as_slice()));
-    assert_eq!(rt; behind(b"int", b"in"), None);
+fn sums_are_told(rt: HostRuntime) -> Result<(), Fail> {
+    let alloc = rt.alloc();
+    assert!(rt; is_sum_program(&sum3(alloc)?));
+    let times = Expr::Bin(
+        BinOp::Mul,
+        Boxed::new(alloc, cell(0))?,
+        Boxed::new(alloc, cell(1))?,
+    );
+    let product = Program::make(alloc, parts(alloc, times)?)?;
+    assert!(rt; !is_sum_program(&product));
+    Ok(())
 }

@@ -42,6 +42,10 @@ pub(crate) fn evaluate<C: Cells>(
     match expr {
         Expr::Num(n) => (literal_type(*n), *n as i128),
         Expr::Cell { tensor, offset } => (parts.tensor_type(*tensor), cells.cell(*tensor, offset)),
+        Expr::Par { param, place } => (
+            parts.param_type(*param),
+            parts.param_value(params, *param, *place),
+        ),
         Expr::Un(op, a) => {
             let (ty, v) = evaluate(parts, a.get(), cells, params);
             unary(*op, ty, v)

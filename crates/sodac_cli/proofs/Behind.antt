@@ -1,5 +1,5 @@
 -- The run of a job behind the reading of its program.
-use Rattle.std.proofs.Common.{◌≡◌, ◌⊎◌, ◌<◌, ◌==◌, ℕ, zero, suc, ◌+◌, Bool, true, false, List, [], ◌∷◌, ◌++◌, map, length, Option, Some, Err, refl, sym, ap, subst, ◌∙◌, arith, inl, inr, eq-eqb}
+use Rattle.std.proofs.Common.{◌≡◌, ◌≢◌, ◌⊎◌, ◌<◌, ◌==◌, ℕ, zero, suc, ◌+◌, Bool, true, false, List, [], ◌∷◌, ◌++◌, map, length, Option, Some, Err, refl, sym, ap, subst, ◌∙◌, arith, inl, inr, eq-eqb}
 use Rattle.std.proofs.lemmas.Bool.{eqb-true}
 use Rattle.std.proofs.lemmas.List.{append-nil}
 use mathlib.Core.Path.{fun_ext}
@@ -9,13 +9,16 @@ use Rattle.soda_io.specs.declared.role.FileRole.TheVariants.{Program}
 use Rattle.whole_files.specs.Journal.{gots}
 use Rattle.whole_files.specs.declared.reading.ReadFail.{ReadFail}
 use Rattle.whole_files.specs.declared.reading.ReadFail.TheVariants as fail
-use Rattle.soda_ir.specs.Program.{PlainProgram, cells_at}
-use Rattle.job_parts.specs.SumText.{Accepts, most_text}
+use Rattle.soda_ir.specs.Program.{PlainProgram}
+use Rattle.soda_ir.specs.Sums.{IsSumProgram}
+use Rattle.soda_parse.specs.Text.{Accepts, Refuses, too_long}
+use Rattle.soda_parse.specs.declared.refusal.Refusal.{Refusal}
+use Rattle.soda_parse.specs.declared.refusal.Refusal.TheVariants.{TextTooLong}
 use Rattle.sodac_cli.specs.declared.status.Status.{Status}
 use Rattle.sodac_cli.specs.declared.status.Status.TheVariants as is
 use Rattle.sodac_cli.specs.Job.{JobFile, PlainJob, array_files, job_files}
 use Rattle.sodac_cli.specs.Journal.{Asks, Broken, Clean, Ends, IsAtEnd, IsFailure, asking}
-use Rattle.sodac_cli.specs.Meaning.{Before, Faults, Holding, IsAfterWords, IsBegun, IsFine, IsUnbuiltJob, Tells, most_cells, text}
+use Rattle.sodac_cli.specs.Meaning.{Before, Faults, HasProgram, HasRefusedText, Holding, IsAfterProgram, IsAfterWords, IsBegun, IsFine, IsOnlyCause, IsRefusedJob, IsUnbuiltJob, Tells, form, most_text, text}
 use Rattle.sodac_cli.specs.Stages.{ReadLog, TextBytes, TextLog}
 use Rattle.sodac_cli.proofs.Begun.{Always, not_opened}
 use Rattle.sodac_cli.proofs.Logs.{broken_quiet, failure_behind, good_quiet, gots-append, then_broken, then_clean}
@@ -41,8 +44,11 @@ module _ (g : ℕ) (a b : Store) (j : PlainJob) where
   pub memory_first : ReadLog g a b j.program → Asks g a b (job_files j) (Before a.bytes j) is.Memory
   memory_first l = record { whole = λ b e. cc; made = program_file ∷ []; rest = array_files j.input j.output; order = refl; only = first_only; ends = inl l.clean }
 
-  pub long_asks : (IsBegun a.bytes j → ⊥) → (e : ReadFail) → e ≡ fail.TooLong → TextLog g a b j.program (Err e) → Asks g a b (job_files j) (Before a.bytes j) is.NotYetBuilt
-  long_asks not e same l = let P : ReadFail → Type 0 = λ x. TextLog g a b j.program (Err x) in unbuilt_first not (subst P same l)
+  pub refused_first : (r : Refusal) (l : ReadLog g a b j.program) → (r ≢ TextTooLong → IsAtEnd (gots g l.clean.entries)) → Asks g a b (job_files j) (Before a.bytes j) (is.Program r)
+  refused_first r l end = record { whole = λ b e. cc; made = program_file ∷ []; rest = array_files j.input j.output; order = refl; only = first_only; ends = (l.clean, record { alone = refl; out = end }) }
+
+  pub long_asks : (e : ReadFail) → e ≡ fail.TooLong → TextLog g a b j.program (Err e) → Asks g a b (job_files j) (Before a.bytes j) (is.Program TextTooLong)
+  long_asks e same l = let P : ReadFail → Type 0 = λ x. TextLog g a b j.program (Err x) in refused_first TextTooLong (subst P same l) (λ ne. absurd (ne refl))
 
   pub program_failed_asks : (e : ReadFail) → e ≡ fail.Failed → TextLog g a b j.program (Err e) → Asks g a b (job_files j) (Before a.bytes j) (is.FileFault Program)
   program_failed_asks e same l =
@@ -91,15 +97,16 @@ module _ (g : ℕ) (a b : Store) (j : PlainJob) where
         subst P next (e.0, gots-append h log.clean.entries second.entries ∙ ap (λ (gs : List (Option ℕ)). gs ++ gots h second.entries) (log.only h (λ q. absurd (omega arith))) ∙ e.1)
 
     -- how the journal ends behind the program
-    ends_behind : (made : List (Bool × List ℕ)) (s : Status) → IsAfterWords s → Ends h b c (array_files j.input j.output) made s → Ends g a c (job_files j) ((true, j.program) ∷ made) s
+    ends_behind : (made : List (Bool × List ℕ)) (s : Status) → IsAfterProgram s → Ends h b c (array_files j.input j.output) made s → Ends g a c (job_files j) ((true, j.program) ∷ made) s
     ends_behind made is.Ok w e = (clean_behind made e.0, record { all = ap (λ (ms : List (Bool × List ℕ)). (true, j.program) ∷ ms) e.1.all; out = (λ o. program_out e.0, (λ o. later_out e.0 (e.1.out.0 o), (λ o. absurd (not_opened o), tt))) })
     ends_behind made is.NotYetBuilt w e = clean_behind made e
     ends_behind made is.Usage w e = absurd w
+    ends_behind made (is.Program r) w e = absurd w
     ends_behind made (is.FileFault role) w e = (suc e.0, broken_behind made e.0 e.1, e.2)
     ends_behind made is.Memory w (inl e) = inl (clean_behind made e)
     ends_behind made is.Memory w (inr e) = inr (suc e.0, broken_behind made e.0 e.1)
 
-    pub asks_behind : (s : Status) → IsAfterWords s → Asks h b c (array_files j.input j.output) Always s → Asks g a c (job_files j) (Before a.bytes j) s
+    pub asks_behind : (s : Status) → IsAfterProgram s → Asks h b c (array_files j.input j.output) Always s → Asks g a c (job_files j) (Before a.bytes j) s
     asks_behind s w l = record {
       made = program_file ∷ l.made;
       rest = l.rest;
@@ -109,45 +116,80 @@ module _ (g : ℕ) (a b : Store) (j : PlainJob) where
       ends = ends_behind (map asking l.made) s w l.ends;
     }
 
--- a program's text that isn't built
-pub unbuilt_text : (h : Holding) (j : PlainJob) (bytes read : List ℕ) → h j.program ≡ Some bytes → read ≡ bytes → ((q : PlainProgram) → Accepts read q → ⊥) → IsUnbuiltJob h j
-unbuilt_text h j bytes read there same none = text (record { text = read; there = there ∙ ap (λ (xs : List ℕ). Some xs) (sym same); none = none })
+-- the program is accepted, and is no sum
+pub unbuilt_form : (h : Holding) (j : PlainJob) (p : PlainProgram) → HasProgram h j p → (IsSumProgram p → ⊥) → IsUnbuiltJob h j
+unbuilt_form h j p has none = form (record { plain = p; program = has; none = none })
 
--- With nothing amiss the status is Ok, or for want of memory; and what isn't built is refused as such.
+pub form_not_begun : (h : Holding) (j : PlainJob) (p : PlainProgram) → ((q : PlainProgram) → HasProgram h j q → q ≡ p) → (IsSumProgram p → ⊥) → IsBegun h j → ⊥
+form_not_begun h j p only none b = none (subst IsSumProgram (only b.plain b.program) b.sums)
+
+-- a text that is too long, or that the parser refuses
+pub refused_text : (h : Holding) (j : PlainJob) (r : Refusal) (bytes : List ℕ) → h j.program ≡ Some bytes → Refuses most_text bytes r → IsRefusedJob h j r
+refused_text h j r bytes there refused = text (record { text = bytes; there = there; refused = refused })
+
+pub long_text : (h : Holding) (j : PlainJob) (bytes : List ℕ) → h j.program ≡ Some bytes → most_text < length bytes → IsRefusedJob h j TextTooLong
+long_text h j bytes there lt = refused_text h j TextTooLong bytes there (too_long lt)
+
+-- what is read of the bytes of the program is true of its file
+module _ (h : Holding) (j : PlainJob) (bytes : List ℕ) (there : h j.program ≡ Some bytes) where
+  pub accepted_text : (p : PlainProgram) → Accepts most_text bytes p → HasProgram h j p
+  accepted_text p a = record { text = bytes; there = there; accepted = a }
+
+  pub only_program : (p : PlainProgram) → ((q : PlainProgram) → Accepts most_text bytes q → q ≡ p) → (q : PlainProgram) → HasProgram h j q → q ≡ p
+  only_program p only q has =
+      let P : List ℕ → Type 0 = λ t. Accepts most_text t q in
+      only q (subst P (some_same has.text bytes (sym has.there ∙ there)) has.accepted)
+
+  pub not_program : ((q : PlainProgram) → Accepts most_text bytes q → ⊥) → (q : PlainProgram) → HasProgram h j q → ⊥
+  not_program none q has =
+      let P : List ℕ → Type 0 = λ t. Accepts most_text t q in
+      none q (subst P (some_same has.text bytes (sym has.there ∙ there)) has.accepted)
+
+  pub only_refused : (r : Refusal) → ((s : Refusal) → Refuses most_text bytes s → s ≡ r) → (s : Refusal) → HasRefusedText h j s → s ≡ r
+  only_refused r first s has =
+      let P : List ℕ → Type 0 = λ t. Refuses most_text t s in
+      first s (subst P (some_same has.text bytes (sym has.there ∙ there)) has.refused)
+
+  pub not_refused : ((s : Refusal) → Refuses most_text bytes s → ⊥) → (s : Refusal) → HasRefusedText h j s → ⊥
+  not_refused none s has =
+      let P : List ℕ → Type 0 = λ t. Refuses most_text t s in
+      none s (subst P (some_same has.text bytes (sym has.there ∙ there)) has.refused)
+
+-- With nothing amiss the status is Ok, or for want of memory; and what isn't built, or is refused, is answered as such.
 module _ (old new : Holding) (j : PlainJob) (before now : ℕ) where
   -- a status that can't come where all is well
-  pub complete : (s : Status) → Tells old new j s → Faults before now s → (IsUnbuiltJob old j → ⊥) → ¬ Rose before now → (s ≡ is.Ok) ⊎ (s ≡ is.Memory)
-  complete is.Ok t f built sound = inl refl
-  complete is.Memory t f built sound = inr refl
-  complete is.NotYetBuilt t f built sound = absurd (built t)
-  complete is.Usage t f built sound = absurd t
-  complete (is.FileFault role) t f built sound = absurd (sound f)
+  pub complete : (s : Status) → Tells old new j s → IsOnlyCause old j s → Faults before now s → IsFine old j → ¬ Rose before now → (s ≡ is.Ok) ⊎ (s ≡ is.Memory)
+  complete is.Ok t o f fine sound = inl refl
+  complete is.Memory t o f fine sound = inr refl
+  complete is.NotYetBuilt t o f fine sound = absurd (o.0 fine)
+  complete (is.Program r) t o f fine sound = absurd (o.0 fine)
+  complete is.Usage t o f fine sound = absurd t
+  complete (is.FileFault role) t o f fine sound = absurd (sound f)
 
-  pub refused : (s : Status) → Tells old new j s → Faults before now s → (IsFine old j → ⊥) → ¬ Rose before now → (s ≡ is.NotYetBuilt) ⊎ (s ≡ is.Memory)
-  refused is.Ok t f fine sound = absurd (fine t.0)
-  refused is.Memory t f fine sound = inr refl
-  refused is.NotYetBuilt t f fine sound = inl refl
-  refused is.Usage t f fine sound = absurd t
-  refused (is.FileFault role) t f fine sound = absurd (sound f)
+  pub unbuilt : (s : Status) → Tells old new j s → IsOnlyCause old j s → Faults before now s → IsUnbuiltJob old j → ¬ Rose before now → (s ≡ is.NotYetBuilt) ⊎ (s ≡ is.Memory)
+  unbuilt is.Ok t o f u sound = absurd (o.0 u)
+  unbuilt is.Memory t o f u sound = inr refl
+  unbuilt is.NotYetBuilt t o f u sound = inl refl
+  unbuilt (is.Program r) t o f u sound = absurd (o.1 u)
+  unbuilt is.Usage t o f u sound = absurd t
+  unbuilt (is.FileFault role) t o f u sound = absurd (sound f)
 
--- a program that is begun is no longer than its limit, and of the form that is built
-pub long_not_begun : (h : Holding) (j : PlainJob) (bytes : List ℕ) → h j.program ≡ Some bytes → most_text < length bytes → IsBegun h j → ⊥
-long_not_begun h j bytes there lt b =
-    let same : bytes ≡ b.program.text = some_same bytes b.program.text (sym there ∙ b.program.there) in
-    absurd (omega (arith, ap length same, b.program.accepted.short))
+  pub refuses : (s : Status) → Tells old new j s → IsOnlyCause old j s → Faults before now s → (r : Refusal) → IsRefusedJob old j r → ¬ Rose before now → (s ≡ is.Program r) ⊎ (s ≡ is.Memory)
+  refuses is.Ok t o f r x sound = absurd (o.1 r x)
+  refuses is.Memory t o f r x sound = inr refl
+  refuses is.NotYetBuilt t o f r x sound = absurd (o.1 r x)
+  refuses (is.Program s) t o f r x sound = inl (ap (λ y. is.Program y) (sym (o.2 r x)))
+  refuses is.Usage t o f r x sound = absurd t
+  refuses (is.FileFault role) t o f r x sound = absurd (sound f)
 
-pub unbuilt_not_begun : (h : Holding) (j : PlainJob) (bytes : List ℕ) → h j.program ≡ Some bytes → ((q : PlainProgram) → Accepts bytes q → ⊥) → IsBegun h j → ⊥
-unbuilt_not_begun h j bytes there none b =
-    let same : b.program.text ≡ bytes = some_same b.program.text bytes (sym b.program.there ∙ there) in
-    let P : List ℕ → Type 0 = λ t. Accepts t b.plain in
-    none b.plain (subst P same b.program.accepted)
+-- a status that comes behind the program may come behind the words
+pub after_words : (s : Status) → IsAfterProgram s → IsAfterWords s
+after_words is.Ok a = tt
+after_words is.Memory a = tt
+after_words is.NotYetBuilt a = tt
+after_words is.Usage a = a
+after_words (is.Program r) a = tt
+after_words (is.FileFault role) a = tt
 
-pub many_not_begun : (h : Holding) (j : PlainJob) (bytes : List ℕ) (p : PlainProgram) → h j.program ≡ Some bytes → ((q : PlainProgram) → Accepts bytes q → q ≡ p) → most_cells < cells_at p j.rows → IsBegun h j → ⊥
-many_not_begun h j bytes p there only lt b =
-    let same : b.program.text ≡ bytes = some_same b.program.text bytes (sym b.program.there ∙ there) in
-    let P : List ℕ → Type 0 = λ t. Accepts t b.plain in
-    let one = only b.plain (subst P same b.program.accepted) in
-    absurd (omega (arith, ap (λ q. cells_at q j.rows) one, b.few))
-
-pub too_long : (old : Store) (name : List ℕ) (e : ReadFail) → e ≡ fail.TooLong → TextBytes old name (Err e) → (bytes : List ℕ) × (old.bytes name ≡ Some bytes) × (most_text < length bytes)
-too_long old name e same t = let P : ReadFail → Type 0 = λ x. TextBytes old name (Err x) in subst P same t
+pub long_bytes : (old : Store) (name : List ℕ) (e : ReadFail) → e ≡ fail.TooLong → TextBytes old name (Err e) → (bytes : List ℕ) × (old.bytes name ≡ Some bytes) × (most_text < length bytes)
+long_bytes old name e same t = let P : ReadFail → Type 0 = λ x. TextBytes old name (Err x) in subst P same t

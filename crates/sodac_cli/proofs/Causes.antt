@@ -1,37 +1,84 @@
--- What isn't built and what is fine exclude each other.
-use Rattle.std.proofs.Common.{◌≡◌, ℕ, List, Some, sym, ap, subst, ◌∙◌, arith}
+-- That all is well, that something isn't built, and each refusal exclude each other.
+use Rattle.std.proofs.Common.{◌≡◌, ◌<◌, ℕ, List, length, Some, refl, sym, subst, ◌∙◌, arith}
 use Rattle.soda_ir.specs.Program.{PlainProgram, cells_at}
+use Rattle.soda_ir.specs.Sums.{IsSumProgram}
+use Rattle.soda_parse.specs.Text.{Accepts, Refuses, too_long, no_ascii, no_syntax, not_valid}
+use Rattle.soda_parse.specs.declared.refusal.Refusal.{Refusal}
+use Rattle.soda_parse.specs.declared.refusal.Refusal.TheVariants.{TextTooLong}
 use Rattle.job_parts.specs.Cells.{AreCells}
-use Rattle.job_parts.specs.SumText.{Accepts}
+use Rattle.sodac_cli.specs.declared.status.Status.{Status}
+use Rattle.sodac_cli.specs.declared.status.Status.TheVariants as is
 use Rattle.sodac_cli.specs.Job.{PlainJob}
-use Rattle.sodac_cli.specs.Meaning.{HasProgram, Holding, IsFine, IsUnbuiltJob, input, rows, text}
+use Rattle.sodac_cli.specs.Meaning.{HasProgram, HasRefusedText, Holding, IsBegun, IsFine, IsOnlyCause, IsRefusedJob, IsUnbuiltJob, KeepsLimits, PassesLimit, Tells, form, input, limit, many_cells, many_in_all, most_text, text}
 
 some_same : {A : Type 0} (x y : A) → Some x ≡ Some y → x ≡ y
 some_same x y e = cc
 
--- a text stands for one program
-abbrev pub StandsForOne : Type 0
-StandsForOne = (bytes : List ℕ) (p q : PlainProgram) → Accepts bytes p → Accepts bytes q → p ≡ q
+-- arrays that keep the limits pass none, and pass no two
+keeps_none : (p : PlainProgram) (rows : ℕ) (r : Refusal) → KeepsLimits p rows → PassesLimit p rows r → ⊥
+keeps_none p rows r k (many_cells lt e) = absurd (omega (arith, lt, k.cells))
+keeps_none p rows r k (many_in_all le lt e) = absurd (omega (arith, lt, k.total))
 
-module _ (one : StandsForOne) (h : Holding) (j : PlainJob) where
-  one_program : (p q : PlainProgram) → HasProgram h j p → HasProgram h j q → p ≡ q
-  one_program p q a b =
-      let same : a.text ≡ b.text = some_same a.text b.text (sym a.there ∙ b.there) in
-      let P : List ℕ → Type 0 = λ t. Accepts t p in
-      one b.text p q (subst P same a.accepted) b.accepted
+one_limit : (p : PlainProgram) (rows : ℕ) (r s : Refusal) → PassesLimit p rows r → PassesLimit p rows s → s ≡ r
+one_limit p rows r s (many_cells lt e) (many_cells lt2 e2) = e2 ∙ sym e
+one_limit p rows r s (many_cells lt e) (many_in_all le lt2 e2) = absurd (omega (arith, lt, le))
+one_limit p rows r s (many_in_all le lt e) (many_cells lt2 e2) = absurd (omega (arith, lt2, le))
+one_limit p rows r s (many_in_all le lt e) (many_in_all le2 lt2 e2) = e2 ∙ sym e
 
-  pub exclude : IsFine h j → IsUnbuiltJob h j → ⊥
-  exclude f (text u) =
-      let p = f.begun.program in
-      let same : p.text ≡ u.text = some_same p.text u.text (sym p.there ∙ u.there) in
-      let P : List ℕ → Type 0 = λ t. Accepts t f.begun.plain in
-      u.none f.begun.plain (subst P same p.accepted)
-  exclude f (rows u) =
-      let same : f.begun.plain ≡ u.plain = one_program f.begun.plain u.plain f.begun.program u.program in
-      absurd (omega (arith, ap (λ p. cells_at p j.rows) same, f.begun.few, u.many))
-  exclude f (input u) =
-      let same : f.begun.plain ≡ u.begun.plain = one_program f.begun.plain u.begun.plain f.begun.program u.begun.program in
+-- where the text stands for one program, and isn't refused
+module _ (h : Holding) (j : PlainJob) (p : PlainProgram) (only : (q : PlainProgram) → HasProgram h j q → q ≡ p) (unrefused : (r : Refusal) → HasRefusedText h j r → ⊥) where
+  same_program : (q o : PlainProgram) → HasProgram h j q → HasProgram h j o → q ≡ o
+  same_program q o a b = only q a ∙ sym (only o b)
+
+  begun_unrefused : IsBegun h j → (r : Refusal) → IsRefusedJob h j r → ⊥
+  begun_unrefused b r (text t) = unrefused r t
+  begun_unrefused b r (limit l) =
+      let same : l.plain ≡ b.plain = same_program l.plain b.plain l.program b.program in
+      let P : PlainProgram → Type 0 = λ q. PassesLimit q j.rows r in
+      keeps_none b.plain j.rows r b.few (subst P same l.passed)
+
+  fine_built : IsFine h j → IsUnbuiltJob h j → ⊥
+  fine_built f (form u) = u.none (subst IsSumProgram (same_program f.begun.plain u.plain f.begun.program u.program) f.begun.sums)
+  fine_built f (input u) =
+      let same : f.begun.plain ≡ u.begun.plain = same_program f.begun.plain u.begun.plain f.begun.program u.begun.program in
       let bytes : f.input.bytes ≡ u.bytes = some_same f.input.bytes u.bytes (sym f.input.there ∙ u.there) in
       let P : List ℕ → Type 0 = λ t. AreCells (cells_at f.begun.plain j.rows) t f.cells in
-      let Q : PlainProgram → Type 0 = λ p. AreCells (cells_at p j.rows) u.bytes f.cells in
+      let Q : PlainProgram → Type 0 = λ q. AreCells (cells_at q j.rows) u.bytes f.cells in
       u.none f.cells (subst Q same (subst P bytes f.input.good))
+
+  unbuilt_unrefused : IsUnbuiltJob h j → (r : Refusal) → IsRefusedJob h j r → ⊥
+  unbuilt_unrefused (form u) r (text t) = unrefused r t
+  unbuilt_unrefused (form u) r (limit l) = u.none (subst IsSumProgram (same_program l.plain u.plain l.program u.program) l.sums)
+  unbuilt_unrefused (input u) r x = begun_unrefused u.begun r x
+
+  one_refusal : (r s : Refusal) → IsRefusedJob h j r → IsRefusedJob h j s → s ≡ r
+  one_refusal r s (text t) y = absurd (unrefused r t)
+  one_refusal r s (limit l) (text t) = absurd (unrefused s t)
+  one_refusal r s (limit l) (limit m) =
+      let P : PlainProgram → Type 0 = λ q. PassesLimit q j.rows s in
+      one_limit l.plain j.rows r s l.passed (subst P (same_program m.plain l.plain m.program l.program) m.passed)
+
+  pub accepted_only : (new : Holding) (s : Status) → Tells h new j s → IsOnlyCause h j s
+  accepted_only new is.Ok t = (fine_built t.0, begun_unrefused t.0.begun)
+  accepted_only new is.NotYetBuilt t = ((λ f. fine_built f t), unbuilt_unrefused t)
+  accepted_only new (is.Program r) t = ((λ f. begun_unrefused f.begun r t), (λ u. unbuilt_unrefused u r t), (λ s x. one_refusal r s t x))
+  accepted_only new is.Usage t = tt
+  accepted_only new is.Memory t = tt
+  accepted_only new (is.FileFault role) t = tt
+
+-- where the text stands for no program, and is refused for one cause
+pub refused_only : (h : Holding) (j : PlainJob) (r : Refusal) → ((q : PlainProgram) → HasProgram h j q → ⊥) → ((s : Refusal) → HasRefusedText h j s → s ≡ r) → IsOnlyCause h j (is.Program r)
+refused_only h j r none first =
+    let unbuilt : IsUnbuiltJob h j → ⊥ = λ u. elim u [ form x ↦ none x.plain x.program | input x ↦ none x.begun.plain x.begun.program ] in
+    let one : (s : Refusal) → IsRefusedJob h j s → s ≡ r = λ s x. elim x [ text t ↦ first s t | limit l ↦ absurd (none l.plain l.program) ] in
+    ((λ f. none f.begun.plain f.begun.program), unbuilt, one)
+
+-- a text that is too long is accepted as no program, and refused for its length alone
+pub long_none : (bytes : List ℕ) → most_text < length bytes → (q : PlainProgram) → Accepts most_text bytes q → ⊥
+long_none bytes lt q a = absurd (omega (arith, lt, a.short))
+
+pub long_first : (bytes : List ℕ) → most_text < length bytes → (s : Refusal) → Refuses most_text bytes s → s ≡ TextTooLong
+long_first bytes lt s (too_long x) = refl
+long_first bytes lt s (no_ascii short x) = absurd (omega (arith, lt, short))
+long_first bytes lt s (no_syntax short x y) = absurd (omega (arith, lt, short))
+long_first bytes lt s (not_valid ss short x y z) = absurd (omega (arith, lt, short))

@@ -7,10 +7,11 @@ use Rattle.soda_io.specs.declared.call.FileCall.{FileCall}
 use Rattle.soda_io.specs.declared.call.FileCall.TheVariants.{Open, Create}
 use Rattle.whole_files.specs.Writing.{WritesWhole, last_write}
 use Rattle.soda_ir.specs.Program.{PlainProgram, cells_at}
+use Rattle.soda_ir.specs.Sums.{IsSumProgram}
 use Rattle.job_parts.specs.Cells.{AreCells}
 use Rattle.sodac_cli.specs.Job.{PlainJob}
 use Rattle.sodac_cli.specs.Journal.{creates}
-use Rattle.sodac_cli.specs.Meaning.{HasProgram, Holding, IsBegun, IsFine, IsTextOver, IsUnbuiltJob, input, Leaves, most_cells, output_text}
+use Rattle.sodac_cli.specs.Meaning.{HasProgram, Holding, IsBegun, IsFine, IsTextOver, IsUnbuiltJob, input, Leaves, most_cells, most_total, output_text, total_at}
 use Rattle.sodac_cli.proofs.Running.{cells_short}
 
 -- entries among which a file was created
@@ -80,9 +81,9 @@ module _ (g m : ℕ) (s0 s1 s2 : Store) (j : PlainJob) (i k : ℕ) (o : Opens g 
       pub wrote_all : (u : Unit {0}) → WritesWhole p s3 s4 k bytes (Ok u) → s4.bytes j.output ≡ Some bytes
       wrote_all u w = wrote_own (Ok u) w ∙ ap (λ (xs : List ℕ). Some xs) (take_all w.count bytes (omega (arith, w.all)))
 
-module _ (h : Holding) (j : PlainJob) (q : PlainProgram) (program : HasProgram h j q) (small : cells_at q j.rows ≤ most_cells) (bytes : List ℕ) (is : h j.input ≡ Some bytes) where
+module _ (h : Holding) (j : PlainJob) (q : PlainProgram) (program : HasProgram h j q) (sums : IsSumProgram q) (small : cells_at q j.rows ≤ most_cells) (few : total_at q j.rows ≤ most_total) (bytes : List ℕ) (is : h j.input ≡ Some bytes) where
   abbrev pub begun : IsBegun h j
-  begun = record { plain = q; program = program; few = small }
+  begun = record { plain = q; program = program; sums = sums; few = record { cells = small; total = few } }
 
   abbrev pub fine : (text : List ℕ) → IsTextOver q j.rows bytes text → IsFine h j
   fine text t = record { begun = begun; cells = t.cells; input = record { bytes = bytes; there = is; good = t.good } }

@@ -93,6 +93,7 @@ entries_of : (g : ℕ) (old new : Store) (files : List JobFile) (made : List (Bo
 entries_of g old new files made is.Ok e = (e.0.entries, e.0.calls)
 entries_of g old new files made is.Usage e = (e.entries, e.calls)
 entries_of g old new files made is.NotYetBuilt e = (e.entries, e.calls)
+entries_of g old new files made (is.Program r) e = (e.0.entries, e.0.calls)
 entries_of g old new files made (is.FileFault role) e = (e.1.front ++ e.1.entry ∷ [], e.1.calls)
 entries_of g old new files made is.Memory (inl e) = (e.entries, e.calls)
 entries_of g old new files made is.Memory (inr e) = (e.1.front ++ e.1.entry ∷ [], e.1.calls)

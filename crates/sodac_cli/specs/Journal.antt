@@ -1,10 +1,12 @@
 -- What a job asks of its files, as the journal of calls shows it.
-use Rattle.std.specs.Prelude.{◌≡◌, ◌⊎◌, ℕ, ◌+◌, ◌<◌, ◌≤◌, Bool, true, false, List, [], ◌∷◌, ◌++◌, map, length, slice_get, Option, Some, None, All}
+use Rattle.std.specs.Prelude.{◌≡◌, ◌≢◌, ◌⊎◌, ℕ, ◌+◌, ◌<◌, ◌≤◌, Bool, true, false, List, [], ◌∷◌, ◌++◌, map, length, take, slice_get, Option, Some, None, All}
 use Rattle.soda_io.specs.declared.call.FileCall.{FileCall}
 use Rattle.soda_io.specs.declared.call.FileCall.TheVariants.{Open, Create, Read, Write}
 use Rattle.soda_io.specs.declared.role.FileRole.{FileRole}
 use Rattle.soda_io.specs.Store.{Store}
 use Rattle.whole_files.specs.Journal.{NoneAfterEnd, gots}
+use Rattle.soda_parse.specs.declared.refusal.Refusal.{Refusal}
+use Rattle.soda_parse.specs.declared.refusal.Refusal.TheVariants.{TextTooLong}
 use Rattle.sodac_cli.specs.declared.status.Status.{Status}
 use Rattle.sodac_cli.specs.declared.status.Status.TheVariants as is
 use Rattle.sodac_cli.specs.Job.{JobFile}
@@ -91,11 +93,17 @@ pub record AreDone (given : ℕ) (files : List JobFile) (made : List (Bool × Li
   pub all : made ≡ map asking files
   pub out : AreReadOut given files entries
 
+-- the first of the files alone was asked for, and it was read to its end unless its text is too long
+pub record IsJudged (given : ℕ) (files : List JobFile) (made : List (Bool × List ℕ)) (entries : List FileCall) (r : Refusal) : Type 0 where
+  pub alone : made ≡ map asking (take 1 files)
+  pub out : r ≢ TextTooLong → IsAtEnd (gots given entries)
+
 -- how the journal ends: a failed call is the last, and makes the status a fault of its file
 abbrev pub Ends : ℕ → Store → Store → List JobFile → List (Bool × List ℕ) → Status → Type 0
 Ends given old new files made (is.FileFault role) = (n : ℕ) × Broken given old new made n × HasRole files n role
 Ends given old new files made is.Memory = Clean given old new made ⊎ ((n : ℕ) × Broken given old new made n)
 Ends given old new files made is.Ok = (c : Clean given old new made) × AreDone given files made c.entries
+Ends given old new files made (is.Program r) = (c : Clean given old new made) × IsJudged given files made c.entries r
 Ends given old new files made is.Usage = Clean given old new made
 Ends given old new files made is.NotYetBuilt = Clean given old new made
 

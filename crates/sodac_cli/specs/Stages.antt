@@ -7,8 +7,8 @@ use Rattle.soda_io.specs.Store.{Store}
 use Rattle.whole_files.specs.Journal.{gots}
 use Rattle.whole_files.specs.declared.reading.ReadFail.{ReadFail}
 use Rattle.whole_files.specs.declared.reading.ReadFail.TheVariants.{TooLong, Failed, Memory}
-use Rattle.job_parts.specs.SumText.{most_text}
 use Rattle.sodac_cli.specs.Journal.{Broken, Clean, IsAtEnd}
+use Rattle.sodac_cli.specs.Meaning.{most_text}
 
 -- reads are of this id alone
 abbrev pub OnlyReads : ℕ → List FileCall → Type 0

@@ -1,6 +1,7 @@
 //! The whole of what the program `sodac` does, over files and sinks that the caller hands in.
 #![tactic(auto)]
 
+mod messages;
 mod plain;
 mod report;
 mod run;

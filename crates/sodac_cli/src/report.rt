@@ -3,6 +3,7 @@ ghost use Rattle.sodac_cli.specs.declared.status.Status.TheVariants.{Memory};
 ghost use Rattle.sodac_cli.specs.Lines.{Reports, line_of, role_text};
 
 use crate::Status;
+use crate::messages::refusal_text;
 use soda_io::{FileRole, IoErr, Sink};
 use std::alloc::{AllocError, Global};
 use whole_files::put_whole;
@@ -31,6 +32,10 @@ fn line(alloc: Global, status: Status) -> Result<String, AllocError>
             alloc,
             "sodac: usage: sodac [--share] [--raw] [--trace] [--params FILE] [--stall FILE] MODE WORDS\n",
         ),
+        Status::Program(refusal) => {
+            let message = refusal_text(alloc, refusal)?;
+            format!(in alloc; "sodac: program: {message}\n")
+        }
         Status::FileFault(role) => {
             let role = role_text(alloc, role)?;
             format!(in alloc; "sodac: file fault: {role}\n")

@@ -2,24 +2,23 @@ ghost use Rattle.std.specs.Prelude.{◌≡◌, ◌≢◌, ◌+◌, ◌≤◌, Li
 ghost use Rattle.soda_io.specs.Cause.{Rose};
 ghost use Rattle.soda_io.specs.Store.{KeepsBytes};
 ghost use Rattle.soda_ir.specs.Program.{IsArray, cells_at, plain};
-ghost use Rattle.soda_ir.specs.Sums.{uint8};
+ghost use Rattle.soda_ir.specs.Sums.{IsSumProgram, uint8};
 ghost use Rattle.job_parts.specs.Cells.{AreCells};
-ghost use Rattle.job_parts.specs.SumText.{most_text};
 ghost use Rattle.sodac_cli.specs.Job.{array_files, job_files, job_of};
 ghost use Rattle.sodac_cli.specs.Journal.{Asks};
-ghost use Rattle.sodac_cli.specs.Meaning.{IsTextOver, text_of, Before, Faults, HasProgram, IsAfterWords, Leaves, Tells, most_cells};
+ghost use Rattle.sodac_cli.specs.Meaning.{IsTextOver, text_of, Faults, HasProgram, IsAfterProgram, Leaves, Tells, most_cells, most_text, most_total, total_at};
 ghost use Rattle.sodac_cli.specs.Stages.{TextBytes, TextLog};
 
 use crate::Status;
-use job_parts::{MOST_TEXT, PlainWords, array_text, read_cells};
+use job_parts::{PlainWords, array_text, read_cells};
 use soda_io::{FileRole, Files, IoErr};
 use soda_ir::{NoMemory, Program, plain_run};
 use sqlite_items::Items;
 use std::alloc::Global;
 use whole_files::{ReadFail, read_whole, write_whole};
 
-/// The most cells of an array.
-pub(crate) const MOST_CELLS: u64 = 16_777_216;
+/// The most bytes of a program text.
+pub(crate) const MOST_TEXT: u32 = 1_048_576;
 
 /// The most bytes of a cell with its line feed.
 const MOST_CELL_BYTES: usize = 4;
@@ -40,7 +39,7 @@ pub(crate) fn read_text<F: Files>(
     ensures failed { IsErrOf result ReadFail.Failed → Rose (F.faults files.old) (F.faults files.new) }
 {
     match files.open(name) {
-        Ok(id) => read_whole(alloc, files, id, MOST_TEXT),
+        Ok(id) => read_whole(alloc, files, id, MOST_TEXT as usize),
         Err(IoErr::Failed) => Err(ReadFail::Failed),
         Err(IoErr::Memory) => Err(ReadFail::Memory),
     }
@@ -53,11 +52,11 @@ fn output_text(
     rows: u64,
     cells: Items<i128>,
 ) -> Result<Vec<u8>, NoMemory>
+    requires sums { IsSumProgram (plain program.now) }
     requires small { cells_at (plain program.now) rows ≤ most_cells }
     requires array { IsArray uint8 (cells_at (plain program.now) rows) cells }
     ensures { IfOk result (λ text. text.items ≡ text_of (plain program.now) rows cells) }
 {
-    let _valid = program.parts();
     let arrays = plain_run(alloc, program, rows, &[cells], &[])?;
     array_text(alloc, arrays.as_slice()[0].as_slice(), 1)
 }
@@ -69,11 +68,11 @@ fn text_over(
     rows: u64,
     input: &[u8],
 ) -> Result<Option<Vec<u8>>, NoMemory>
-    requires { cells_at (plain program.now) rows ≤ most_cells }
+    requires sums { IsSumProgram (plain program.now) }
+    requires small { cells_at (plain program.now) rows ≤ most_cells }
     ensures found { IfOk result (λ found. IfSome found (λ text. IsTextOver (plain program.now) rows input.now text.items)) }
     ensures none { IfOk result (λ found. IfNone found ((cells : List ℤ) → AreCells (cells_at (plain program.now) rows) input.now cells → ⊥)) }
 {
-    let _valid = program.parts();
     match read_cells(alloc, input, rows)? {
         Some(cells) => Ok(Some(output_text(alloc, program, rows, cells)?)),
         None => Ok(None),
@@ -88,15 +87,16 @@ pub(crate) fn run<F: Files>(
     files: &mut F,
 ) -> Status
     requires apart { job.now.output.now ≢ job.now.input.now }
+    requires sums { IsSumProgram (plain program.now) }
     requires small { cells_at (plain program.now) job.now.rows ≤ most_cells }
+    requires few { total_at (plain program.now) job.now.rows ≤ most_total }
     requires program { F.tells → HasProgram (F.store files.old).bytes (job_of job.now) (plain program.now) }
-    ensures begun { IsAfterWords result }
+    ensures begun { IsAfterProgram result }
     ensures asks { F.tells → Asks (F.given files.old) (F.store files.old) (F.store files.new) (array_files job.now.input.now job.now.output.now) (λ k. Unit {0}) result }
     ensures leaves { F.tells → Leaves (F.store files.old) (F.store files.new) (job_of job.now) }
     ensures tells { F.tells → Tells (F.store files.old).bytes (F.store files.new).bytes (job_of job.now) result }
     ensures faults { Faults (F.faults files.old) (F.faults files.new) result }
 {
-    let _valid = program.parts();
     let input = match files.open(job.input) {
         Ok(id) => id,
         Err(IoErr::Failed) => return Status::FileFault(FileRole::Input(0)),

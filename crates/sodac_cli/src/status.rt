@@ -2,6 +2,7 @@ ghost use Rattle.std.specs.Prelude.{◌≡◌};
 ghost use Rattle.sodac_cli.specs.Lines.{number_of};
 
 use soda_io::FileRole;
+use soda_parse::Refusal;
 
 /// How a job ended.
 #[derive(Clone, Copy, Debug, PartialEq, Eq)]
@@ -10,11 +11,13 @@ pub enum Status {
     Ok,
     /// The words aren't taken.
     Usage,
+    /// The program's text is refused, or its arrays pass a limit.
+    Program(Refusal),
     /// A call on the file of this role failed.
     FileFault(FileRole),
     /// Want of memory.
     Memory,
-    /// The words, the program or the input ask for what isn't built yet.
+    /// The mode, the program or the input asks for what isn't built yet.
     NotYetBuilt,
 }
 
@@ -26,6 +29,7 @@ impl Status {
         match self {
             Status::Ok => 0,
             Status::Usage => 2,
+            Status::Program(_) => 3,
             Status::FileFault(_) => 5,
             Status::Memory => 7,
             Status::NotYetBuilt => 10,

@@ -1,5 +1,6 @@
 use super::*;
 use soda_io::{FileCall, FileRole, Files, MemFiles, MemSink};
+use soda_parse::{LimitKind, Need, Refusal};
 use std::alloc::{AllocError, Global};
 use std::process::Abort;
 use std::test::Fail;
@@ -102,6 +103,133 @@ fn expect_refusal(
     Ok(())
 }
 
+// This program is answered by this status, and by this line, and no file is created.
+fn expect_of_program(
+    rt: &impl Abort,
+    alloc: Global,
+    program: &[u8],
+    status: Status,
+    message: &str,
+) -> Result<(), Fail> {
+    let words = words(alloc, "sodac plain p 5 i o")?;
+    let mut files = files(alloc, program, CELLS, &[])?;
+    let mut out = MemSink::new(alloc, &[])?;
+    let mut err = MemSink::new(alloc, &[])?;
+    let found = execute(alloc, &words, &mut files, &mut out, &mut err);
+    assert_eq!(rt; found, status, "at {message}");
+    assert_eq!(rt; err.bytes(), message.as_bytes(), "at {message}");
+    assert_eq!(rt; files.bytes_of("o"), None, "at {message}");
+    Ok(())
+}
+
+// The settings of the programs below.
+const SETTINGS: &str = "kernel: k\nburst width: 8\nunroll factor: 1\n";
+
+// An input and an output.
+const ENDS: &str = "input uint8: a(*)\noutput uint8: o(0) = a(0)\n";
+
+// What stands behind the settings, why the program is refused, and the message that says so.
+fn refused_behind_settings() -> [(&'static str, Refusal, &'static str); 8] {
+    let float = "input float: a(*)\noutput uint8: o(0) = a(0)\n";
+    let unknown = "input uint8: a(*)\noutput uint8: o(0) = b(0)\n";
+    let dims = "input uint8: a(*)\noutput uint8: o(0) = a(0, 0)\n";
+    let iterate = "iterate: 2\ninput uint8: a(*)\noutput uint16: o(0) = a(0)\n";
+    let circle =
+        "input uint8: a(*)\nlocal uint8: p(0) = q(0)\nlocal uint8: q(0) = p(0)\noutput uint8: o(0) = a(0)\n";
+    let open = "input uint8: a(*)\noutput uint8: o(0) = (a(0)\n";
+    let taken = "input uint8: a(*)\noutput uint8: a(0) = a(0)\n";
+    let foreign = "# \u{e9}\n\u{e9}\n";
+    [
+        (float, Refusal::FloatType(4), "line 4: float type"),
+        (unknown, Refusal::UnknownName(5), "line 5: unknown name"),
+        (
+            dims,
+            Refusal::WrongDims(5),
+            "line 5: wrong number of offsets",
+        ),
+        (iterate, Refusal::IterateMismatch, "iterate mismatch"),
+        (circle, Refusal::Circular(5), "line 5: circular"),
+        (open, Refusal::Syntax(6), "line 6: syntax"),
+        (taken, Refusal::NameTwice(5), "line 5: name taken"),
+        (foreign, Refusal::NotAscii(5), "line 5: not ascii"),
+    ]
+}
+
+// Settings before an input and an output, why the program is refused, and the message that says so.
+fn refused_settings() -> [(&'static str, Refusal, &'static str); 4] {
+    let unroll = Refusal::Limit(LimitKind::Unroll, 65);
+    let nameless = Refusal::Missing(Need::Kernel);
+    [
+        (
+            "kernel: k\nburst width: 8\nunroll factor: 65\n",
+            unroll,
+            "limit unroll 65",
+        ),
+        (
+            "kernel: k\nburst width: 12\nunroll factor: 1\n",
+            Refusal::BurstWidth(12),
+            "burst width 12",
+        ),
+        (
+            "burst width: 8\nunroll factor: 1\n",
+            nameless,
+            "missing kernel",
+        ),
+        (
+            "kernel: k\nburst width: 8\nkernel: k\n",
+            Refusal::Missing(Need::UnrollFactor),
+            "missing unroll factor",
+        ),
+    ]
+}
+
+// A program of these two parts is refused so.
+fn expect_refused(
+    rt: &impl Abort,
+    alloc: Global,
+    parts: [&str; 2],
+    refusal: Refusal,
+    message: &str,
+) -> Result<(), Fail> {
+    let [front, back] = parts;
+    let program = format!(in alloc; "{front}{back}")?;
+    let line = format!(in alloc; "sodac: program: {message}\n")?;
+    expect_of_program(
+        rt,
+        alloc,
+        program.as_bytes(),
+        Status::Program(refusal),
+        &line,
+    )
+}
+
+#[test]
+fn refuses_programs(rt: HostRuntime) -> Result<(), Fail> {
+    for (back, refusal, message) in refused_behind_settings() {
+        expect_refused(&rt, rt.alloc(), [SETTINGS, back], refusal, message)?;
+    }
+    for (front, refusal, message) in refused_settings() {
+        expect_refused(&rt, rt.alloc(), [front, ENDS], refusal, message)?;
+    }
+    Ok(())
+}
+
+#[test]
+fn refuses_a_long_program(rt: HostRuntime) -> Result<(), Fail> {
+    let alloc = rt.alloc();
+    let long = vec![in alloc; b' '; 1_048_577]?;
+    let status = Status::Program(Refusal::TextTooLong);
+    expect_of_program(&rt, alloc, &long, status, "sodac: program: text too long\n")
+}
+
+#[test]
+fn a_program_that_is_no_sum(rt: HostRuntime) -> Result<(), Fail> {
+    let program =
+        b"kernel: avg\nburst width: 8\nunroll factor: 1\ninput uint8: a(*)\noutput uint8: o(0) = (a(-1) + a(0) + a(1)) / 3\n";
+    let status = Status::NotYetBuilt;
+    expect_of_program(&rt, rt.alloc(), program, status, "sodac: not yet built\n")
+}
+
 #[test]
 fn words_that_are_not_taken(rt: HostRuntime) -> Result<(), Fail> {
     let usage =
@@ -122,13 +250,7 @@ fn words_that_are_not_taken(rt: HostRuntime) -> Result<(), Fail> {
 
 #[test]
 fn refuses_in_order(rt: HostRuntime) -> Result<(), Fail> {
-    let unbuilt = [
-        "sodac sim p",
-        "sodac plain i 5 none o",
-        "sodac plain p 16777217 none o",
-        "sodac plain p 4 i o",
-        "sodac plain p 6 i o",
-    ];
+    let unbuilt = ["sodac sim p", "sodac plain p 4 i o", "sodac plain p 6 i o"];
     for line in unbuilt {
         expect_refusal(
             &rt,
@@ -138,6 +260,24 @@ fn refuses_in_order(rt: HostRuntime) -> Result<(), Fail> {
             "sodac: not yet built\n",
         )?;
     }
+    let syntax = Status::Program(Refusal::Syntax(1));
+    let line = "sodac plain i 5 none o";
+    expect_refusal(
+        &rt,
+        rt.alloc(),
+        line,
+        syntax,
+        "sodac: program: line 1: syntax\n",
+    )?;
+    let limit = Status::Program(Refusal::Limit(LimitKind::Cells, 16_777_217));
+    let line = "sodac plain p 16777217 none o";
+    expect_refusal(
+        &rt,
+        rt.alloc(),
+        line,
+        limit,
+        "sodac: program: limit cells 16777217\n",
+    )?;
     let missing = Status::FileFault(FileRole::Input(0));
     let line = "sodac plain p 16777216 none o";
     expect_refusal(

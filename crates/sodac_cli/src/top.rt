@@ -1,16 +1,17 @@
 ghost use Rattle.std.specs.Prelude.{◌≡◌, ◌⊎◌, ℕ};
 ghost use Rattle.soda_io.specs.Cause.{Rose};
+ghost use Rattle.soda_parse.specs.declared.refusal.Refusal.{Refusal};
 ghost use Rattle.sodac_cli.specs.declared.status.Status.TheVariants as is;
 ghost use Rattle.sodac_cli.specs.Job.{AsksFor, PlainJob, job_files};
 ghost use Rattle.sodac_cli.specs.Journal.{Asks};
 ghost use Rattle.sodac_cli.specs.Lines.{Reports};
-ghost use Rattle.sodac_cli.specs.Meaning.{Before, Faults, HasUnbuiltMode, IsFine, IsRefused, IsUnbuiltJob, Leaves, Tells, Untouched, WordsSay};
+ghost use Rattle.sodac_cli.specs.Meaning.{Before, Faults, HasUnbuiltMode, IsFine, IsOnlyCause, IsRefused, IsRefusedJob, IsUnbuiltJob, Leaves, Tells, Untouched, WordsSay};
 ghost use Rattle.job_parts.specs.Words.{TakesWords};
 
 use crate::Status;
 use crate::plain::plain;
 use crate::report::report;
-use job_parts::{Words, read_words, text_stands_for_one};
+use job_parts::{Words, read_words};
 use soda_io::{Files, Sink};
 use std::alloc::Global;
 
@@ -22,6 +23,7 @@ fn job<F: Files>(alloc: Global, words: &[String], files: &mut F) -> Status
     ensures asks { (j : PlainJob) → AsksFor words.now j → F.tells → Asks (F.given files.old) (F.store files.old) (F.store files.new) (job_files j) (Before (F.store files.old).bytes j) result }
     ensures leaves { (j : PlainJob) → AsksFor words.now j → F.tells → Leaves (F.store files.old) (F.store files.new) j }
     ensures tells { (j : PlainJob) → AsksFor words.now j → F.tells → Tells (F.store files.old).bytes (F.store files.new).bytes j result }
+    ensures only { (j : PlainJob) → AsksFor words.now j → F.tells → IsOnlyCause (F.store files.old).bytes j result }
     ensures faults { Faults (F.faults files.old) (F.faults files.new) result }
 {
     match read_words(words) {
@@ -34,9 +36,9 @@ fn job<F: Files>(alloc: Global, words: &[String], files: &mut F) -> Status
 /// Does what the words say over the files, and reports to `err` what it doesn't do. The first word is the program's own
 /// name; `out` takes nothing in the modes that are built so far.
 ///
-/// The status is that of the first refusal or fault: the words, the program's file, the program's text, the limit on
-/// cells, opening the input, creating the output, reading the input, its cells, and writing the output. Want of memory may
-/// come in place of any.
+/// The status is that of the first refusal or fault: the words, the program's file, the program's text, its form, the
+/// limits on cells, opening the input, creating the output, reading the input, its cells, and writing the output. Want of
+/// memory may come in place of any.
 pub fn execute<F: Files, S: Sink, E: Sink>(
     alloc: Global,
     words: &[String],
@@ -54,8 +56,8 @@ pub fn execute<F: Files, S: Sink, E: Sink>(
     ensures asks { (j : PlainJob) → AsksFor words.now j → F.tells → Asks (F.given files.old) (F.store files.old) (F.store files.new) (job_files j) (Before (F.store files.old).bytes j) result }
     // No name but the output's changes, and that only if it was created; then it holds a front of its bytes.
     ensures leaves { (j : PlainJob) → AsksFor words.now j → F.tells → Leaves (F.store files.old) (F.store files.new) j }
-    // At Ok all is well, and the output holds the text of the defined array. `NotYetBuilt` has its cause, and a fault of the
-    // input or the output comes only once the program is accepted and keeps the limit.
+    // At Ok all is well, and the output holds the text of the defined array. `Program` and `NotYetBuilt` have their causes,
+    // and a fault of the input or the output comes only once the program is accepted, a sum, and keeps the limits.
     ensures tells { (j : PlainJob) → AsksFor words.now j → F.tells → Tells (F.store files.old).bytes (F.store files.new).bytes j result }
     // No fault is passed over, and each has its count.
     ensures faults { Faults (F.faults files.old) (F.faults files.new) result }
@@ -70,8 +72,10 @@ pub fn execute<F: Files, S: Sink, E: Sink>(
     // What isn't built is refused as such, but for a fault before it and for want of memory.
     ensures unbuilt { (j : PlainJob) → AsksFor words.now j → F.tells → IsUnbuiltJob (F.store files.old).bytes j
         → ¬ Rose (F.faults files.old) (F.faults files.new) → (result ≡ is.NotYetBuilt) ⊎ (result ≡ is.Memory) }
+    // A program that is refused is refused so, but for a fault before it and for want of memory.
+    ensures refuses { (j : PlainJob) → AsksFor words.now j → F.tells → (r : Refusal) → IsRefusedJob (F.store files.old).bytes j r
+        → ¬ Rose (F.faults files.old) (F.faults files.new) → (result ≡ is.Program r) ⊎ (result ≡ is.Memory) }
 {
-    text_stands_for_one();
     let status = job(alloc, words, files);
     report(alloc, status, err)
 }

@@ -12,13 +12,13 @@ use Rattle.soda_ir.proofs.plain.cell_at.Goals as goal
 pub plain_cell-requires-clause-arrays : goal.plain_cell-requires-clause-arrays
 plain_cell-requires-clause-arrays c =
     let q = plain c.args.program.now in
-    let valid = c.parts-parts.ensures.valid in
+    let valid = c.requires.sums in
     λ f here. each_sum (λ t. IsArray (slice_index_or (scope_of q).tensors t int32) (cells_at q c.args.rows) (slice_index_or c.args.inputs.now t [])) f (sum_at q valid c.args.rows 1 f (sym here)) (input_there q valid c.args.rows c.args.inputs.now c.requires.inputs)
 
 pub returns-then-is_inside : goal.returns-then-is_inside
 returns-then-is_inside c =
     let q = plain c.args.program.now in
-    let valid = c.parts-parts.ensures.valid in
+    let valid = c.requires.sums in
     let fits : FitsSigned w128 c.wrap.result = search rules in
     let small : FitsSigned w128 c.plain_cell.result = search rules in
     cell_then q valid c.args.rows c.args.params.now c.args.inputs.now c.args.place (formula_of c.sum_of-formula.result.now) c.plain_cell.result (to_z w128 (of_z w128 c.wrap.result)) c.requires.within (c.sum_of-formula.ensures valid)
@@ -30,5 +30,5 @@ returns-then-is_inside c =
 pub returns-else-is_inside : goal.returns-else-is_inside
 returns-else-is_inside c =
     let q = plain c.args.program.now in
-    cell_else q c.parts-parts.ensures.valid c.args.rows c.args.params.now c.args.inputs.now c.args.place (formula_of c.sum_of-formula.result.now) c.requires.within (c.sum_of-formula.ensures c.parts-parts.ensures.valid)
+    cell_else q c.requires.sums c.args.rows c.args.params.now c.args.inputs.now c.args.place (formula_of c.sum_of-formula.result.now) c.requires.within (c.sum_of-formula.ensures c.requires.sums)
     (sym c.is_inside.ensures ∙ c.if-is_inside.false)

@@ -13,7 +13,7 @@ use Rattle.soda_ir.proofs.plain.plain_cell.Goals as goal
 pub evaluate-requires : goal.evaluate-requires
 evaluate-requires c =
     let q = plain c.args.program.now in
-    let valid = c.parts-parts.ensures.valid in
+    let valid = c.requires.sums in
     let f = formula_of c.in-Some.formula.now in
     let same = c.parts-parts.ensures.value in
     let found : Some f ≡ formula_at (stencil_of (plain c.parts-parts.result.now) c.args.rows) c.args.tensor = c.in-Some.ensures in
@@ -24,7 +24,7 @@ evaluate-requires c =
 pub returns-in-Some : goal.returns-in-Some
 returns-in-Some c =
     let q = plain c.args.program.now in
-    let valid = c.parts-parts.ensures.valid in
+    let valid = c.requires.sums in
     let f = formula_of c.in-Some.formula.now in
     let same = c.parts-parts.ensures.value in
     let found : Some f ≡ formula_at (stencil_of (plain c.parts-parts.result.now) c.args.rows) c.args.tensor = c.in-Some.ensures in

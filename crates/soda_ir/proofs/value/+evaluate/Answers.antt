@@ -2,7 +2,7 @@ use Rattle.std.proofs.Common.{rules, ◌≡◌, ℤ, ◌∙◌, FitsSigned, to_z
 use Rattle.std.specs.Int.{w128}
 use Rattle.std.proofs.lemmas.Int.{to_z-of_z}
 use Rattle.std.proofs.lemmas.List.{length-map}
-use Rattle.soda_ir.proofs.Values.{read_known, un_step, bin_step, select_step, cast_step}
+use Rattle.soda_ir.proofs.Values.{read_known, value_known, un_step, bin_step, select_step, cast_step}
 use Rattle.soda_ir.proofs.value.+evaluate.Goals as goal
 
 -- the same value, as the code passes it on
@@ -36,3 +36,11 @@ returns-in-Cast-clause-value g t c =
     let fits : FitsSigned w128 c.wrap.result = search rules in
     let v : FitsSigned w128 c.evaluate-v.result.1 = search rules in
     to_z-of_z w128 c.wrap.result fits ∙ cast_step _ _ _ _ _ _ _ _ _ c.in-Cast.is c.get-in-Cast.ensures (passed _ _ v c.evaluate-v.ensures.value) c.wrap.ensures.value
+
+pub param_type-requires : goal.param_type-requires
+param_type-requires g t c =
+    let h = (value_known _ _ _ _ _ _ c.in-Par.is c.requires).0 in simp (length-map, length-map) at h
+
+pub param_value-requires-clause-there : goal.param_value-requires-clause-there
+param_value-requires-clause-there g t c =
+    let h = (value_known _ _ _ _ _ _ c.in-Par.is c.requires).0 in simp (length-map, length-map) at h

@@ -52,11 +52,11 @@ pub returns-in-Err-TooLong-clause-tells : goal.returns-in-Err-TooLong-clause-tel
 returns-in-Err-TooLong-clause-tells g c = λ told.
     let x = opened_there _ _ _ _ _ (c.in-Ok.ensures.store told) in
     let left_is = input_left _ _ _ _ _ (job_of c.args.job.now) _ _ (c.in-Ok.ensures.store told) c.in-Ok.ensures.id.0 c.in-Ok.ensures.id.1 (c.in-Ok-create.ensures.store told) c.in-Ok-create.ensures.id.0 c.requires.apart x.0 x.1 in
-    let rows = rows_are (plain c.args.program.now) c.parts-valid.ensures.valid c.args.job.now.rows in
+    let rows = rows_are (plain c.args.program.now) c.requires.sums c.args.job.now.rows in
     let four : c.args.job.now.rows * 4 ≡ cells_at (plain c.args.program.now) c.args.job.now.rows * 4 = ap (λ k. k * 4) (sym rows) in
     let more = c.in-Err-TooLong.ensures.too_long told (ap (λ (e : ReadFail). Err e) c.in-Err-TooLong.field-0-is) in
     let P : List ℕ → Type 0 = λ xs. c.args.job.now.rows * 4 < length xs in
-    too_many _ (job_of c.args.job.now) (plain c.args.program.now) (c.requires.program told) c.requires.small x.0 x.1 (c.args.job.now.rows * 4) four (subst P left_is more)
+    too_many _ (job_of c.args.job.now) (plain c.args.program.now) (c.requires.program told) c.requires.sums c.requires.small c.requires.few x.0 x.1 (c.args.job.now.rows * 4) four (subst P left_is more)
 
 pub returns-in-Ok-None-clause-asks : goal.returns-in-Ok-None-clause-asks
 returns-in-Ok-None-clause-asks g c = λ told.
@@ -81,7 +81,7 @@ returns-in-Ok-None-clause-tells g c = λ told.
     let read = c.deref.ensures.value ∙ c.in-Ok-read_whole.ensures.whole told ∙ left_is in
     let is = x.1 ∙ ap (λ (xs : List ℕ). Some xs) (sym read) in
     let none = rw c.in-Ok-None.field-0-is at c.in-Ok-None.ensures.none in
-    not_cells _ (job_of c.args.job.now) (plain c.args.program.now) (c.requires.program told) c.requires.small c.deref.result.now is none
+    not_cells _ (job_of c.args.job.now) (plain c.args.program.now) (c.requires.program told) c.requires.sums c.requires.small c.requires.few c.deref.result.now is none
 
 pub returns-in-Ok-write_whole-clause-asks : goal.returns-in-Ok-write_whole-clause-asks
 returns-in-Ok-write_whole-clause-asks g c = λ told.
@@ -94,7 +94,7 @@ returns-in-Ok-write_whole-clause-leaves g c = λ told.
     let read = c.deref.ensures.value ∙ c.in-Ok-read_whole.ensures.whole told ∙ left_is in
     let is = x.1 ∙ ap (λ (xs : List ℕ). Some xs) (sym read) in
     let found = rw c.in-Ok-Some.field-0-is at c.in-Ok-Some.ensures.found in
-    let f = fine _ (job_of c.args.job.now) (plain c.args.program.now) (c.requires.program told) c.requires.small c.deref.result.now is c.in-Ok-Some.text.items found in
+    let f = fine _ (job_of c.args.job.now) (plain c.args.program.now) (c.requires.program told) c.requires.sums c.requires.small c.requires.few c.deref.result.now is c.in-Ok-Some.text.items found in
     let text = c.deref-2.ensures.value ∙ found.text in
     wrote_leaves _ _ _ _ _ (job_of c.args.job.now) _ _ (c.in-Ok.ensures.store told) c.in-Ok.ensures.id.0 c.in-Ok.ensures.id.1 (c.in-Ok-create.ensures.store told) c.in-Ok-create.ensures.id.0 c.requires.apart _ (c.in-Ok-read_whole.ensures.store told).bytes _ (c.in-Ok-read_whole.ensures.store told).calls _ (c.in-Ok-create.ensures.id.1) (c.in-Ok-read_whole.ensures.store told).ids _ _ _ f text _ (c.in-Ok-write_whole.ensures.store told)
 
@@ -109,7 +109,7 @@ returns-in-Err-Failed-write_whole-clause-leaves g c = λ told.
     let read = c.deref.ensures.value ∙ c.in-Ok-read_whole.ensures.whole told ∙ left_is in
     let is = x.1 ∙ ap (λ (xs : List ℕ). Some xs) (sym read) in
     let found = rw c.in-Ok-Some.field-0-is at c.in-Ok-Some.ensures.found in
-    let f = fine _ (job_of c.args.job.now) (plain c.args.program.now) (c.requires.program told) c.requires.small c.deref.result.now is c.in-Ok-Some.text.items found in
+    let f = fine _ (job_of c.args.job.now) (plain c.args.program.now) (c.requires.program told) c.requires.sums c.requires.small c.requires.few c.deref.result.now is c.in-Ok-Some.text.items found in
     let text = c.deref-2.ensures.value ∙ found.text in
     wrote_leaves _ _ _ _ _ (job_of c.args.job.now) _ _ (c.in-Ok.ensures.store told) c.in-Ok.ensures.id.0 c.in-Ok.ensures.id.1 (c.in-Ok-create.ensures.store told) c.in-Ok-create.ensures.id.0 c.requires.apart _ (c.in-Ok-read_whole.ensures.store told).bytes _ (c.in-Ok-read_whole.ensures.store told).calls _ (c.in-Ok-create.ensures.id.1) (c.in-Ok-read_whole.ensures.store told).ids _ _ _ f text _ (c.in-Err-Failed-write_whole.ensures.store told)
 
@@ -124,7 +124,7 @@ returns-clause-leaves g c = λ told.
     let read = c.deref.ensures.value ∙ c.in-Ok-read_whole.ensures.whole told ∙ left_is in
     let is = x.1 ∙ ap (λ (xs : List ℕ). Some xs) (sym read) in
     let found = rw c.in-Ok-Some.field-0-is at c.in-Ok-Some.ensures.found in
-    let f = fine _ (job_of c.args.job.now) (plain c.args.program.now) (c.requires.program told) c.requires.small c.deref.result.now is c.in-Ok-Some.text.items found in
+    let f = fine _ (job_of c.args.job.now) (plain c.args.program.now) (c.requires.program told) c.requires.sums c.requires.small c.requires.few c.deref.result.now is c.in-Ok-Some.text.items found in
     let text = c.deref-2.ensures.value ∙ found.text in
     wrote_leaves _ _ _ _ _ (job_of c.args.job.now) _ _ (c.in-Ok.ensures.store told) c.in-Ok.ensures.id.0 c.in-Ok.ensures.id.1 (c.in-Ok-create.ensures.store told) c.in-Ok-create.ensures.id.0 c.requires.apart _ (c.in-Ok-read_whole.ensures.store told).bytes _ (c.in-Ok-read_whole.ensures.store told).calls _ (c.in-Ok-create.ensures.id.1) (c.in-Ok-read_whole.ensures.store told).ids _ _ _ f text _ (c.in-Err-Memory-write_whole.ensures.store told)
 
@@ -135,7 +135,7 @@ returns-in-Ok-write_whole-clause-tells g c = λ told.
     let read = c.deref.ensures.value ∙ c.in-Ok-read_whole.ensures.whole told ∙ left_is in
     let is = x.1 ∙ ap (λ (xs : List ℕ). Some xs) (sym read) in
     let found = rw c.in-Ok-Some.field-0-is at c.in-Ok-Some.ensures.found in
-    let f = fine _ (job_of c.args.job.now) (plain c.args.program.now) (c.requires.program told) c.requires.small c.deref.result.now is c.in-Ok-Some.text.items found in
+    let f = fine _ (job_of c.args.job.now) (plain c.args.program.now) (c.requires.program told) c.requires.sums c.requires.small c.requires.few c.deref.result.now is c.in-Ok-Some.text.items found in
     let text = c.deref-2.ensures.value ∙ found.text in
     (f, wrote_all _ _ _ _ _ (job_of c.args.job.now) _ _ (c.in-Ok.ensures.store told) c.in-Ok.ensures.id.0 c.in-Ok.ensures.id.1 (c.in-Ok-create.ensures.store told) c.in-Ok-create.ensures.id.0 c.requires.apart _ (c.in-Ok-read_whole.ensures.store told).bytes _ (c.in-Ok-read_whole.ensures.store told).calls _ (c.in-Ok-create.ensures.id.1) (c.in-Ok-read_whole.ensures.store told).ids _ _ _ c.in-Ok-write_whole.field-0 (c.in-Ok-write_whole.ensures.store told) ∙ ap (λ (xs : List ℕ). Some xs) text)
 

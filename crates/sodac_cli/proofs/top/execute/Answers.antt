@@ -1,22 +1,30 @@
 use Rattle.std.proofs.Common.{◌∙◌, inl, inr}
-use Rattle.sodac_cli.proofs.Behind.{complete, refused}
-use Rattle.sodac_cli.proofs.Causes.{exclude}
+use Rattle.sodac_cli.proofs.Behind.{complete, refuses, unbuilt}
 use Rattle.sodac_cli.proofs.top.execute.Goals as goal
 
 pub returns-clause-complete : goal.returns-clause-complete
 returns-clause-complete g c = λ j a told fine sound.
     let done = complete (g.F.Files.store c.args.files.now).bytes (g.F.Files.store c.job-status.new.files).bytes j (g.F.Files.faults c.args.files.now) (g.F.Files.faults c.job-status.new.files)
-    c.job-status.result (c.job-status.ensures.tells j a told) c.job-status.ensures.faults (λ u. exclude c.text_stands_for_one.ensures (g.F.Files.store c.args.files.now).bytes j fine u) sound in
+    c.job-status.result (c.job-status.ensures.tells j a told) (c.job-status.ensures.only j a told) c.job-status.ensures.faults fine sound in
     elim c.report.ensures.same [
       | inr memory ↦ inr memory
       | inl same ↦ elim done [ inl ok ↦ inl (same ∙ ok) | inr memory ↦ inr (same ∙ memory) ]
     ]
 
 pub returns-clause-unbuilt : goal.returns-clause-unbuilt
-returns-clause-unbuilt g c = λ j a told unbuilt sound.
-    let done = refused (g.F.Files.store c.args.files.now).bytes (g.F.Files.store c.job-status.new.files).bytes j (g.F.Files.faults c.args.files.now) (g.F.Files.faults c.job-status.new.files)
-    c.job-status.result (c.job-status.ensures.tells j a told) c.job-status.ensures.faults (λ f. exclude c.text_stands_for_one.ensures (g.F.Files.store c.args.files.now).bytes j f unbuilt) sound in
+returns-clause-unbuilt g c = λ j a told u sound.
+    let done = unbuilt (g.F.Files.store c.args.files.now).bytes (g.F.Files.store c.job-status.new.files).bytes j (g.F.Files.faults c.args.files.now) (g.F.Files.faults c.job-status.new.files)
+    c.job-status.result (c.job-status.ensures.tells j a told) (c.job-status.ensures.only j a told) c.job-status.ensures.faults u sound in
     elim c.report.ensures.same [
       | inr memory ↦ inr memory
       | inl same ↦ elim done [ inl not_built ↦ inl (same ∙ not_built) | inr memory ↦ inr (same ∙ memory) ]
+    ]
+
+pub returns-clause-refuses : goal.returns-clause-refuses
+returns-clause-refuses g c = λ j a told r refused sound.
+    let done = refuses (g.F.Files.store c.args.files.now).bytes (g.F.Files.store c.job-status.new.files).bytes j (g.F.Files.faults c.args.files.now) (g.F.Files.faults c.job-status.new.files)
+    c.job-status.result (c.job-status.ensures.tells j a told) (c.job-status.ensures.only j a told) c.job-status.ensures.faults r refused sound in
+    elim c.report.ensures.same [
+      | inr memory ↦ inr memory
+      | inl same ↦ elim done [ inl program ↦ inl (same ∙ program) | inr memory ↦ inr (same ∙ memory) ]
     ]

@@ -1,0 +1,3 @@
+pub mod Outline
+pub mod Types
+pub mod Conditions

@@ -1,0 +1,163 @@
+ghost use Rattle.std.specs.Prelude.{◌≡◌, List, Option, option_map, find, ℕ};
+ghost use Rattle.std.specs.List.{list_any};
+ghost use Rattle.soda_checks.specs.Conditions.{bad_width, float_type, has_output, is_kind, is_unknown, kind_number, missing, name_twice, site_line, twice, unknown_name};
+ghost use Rattle.soda_checks.specs.Outline.{is_one_of, is_same};
+
+use crate::{Defined, Need, Outline, Setting, SettingKind, Site, is_float, type_of};
+use soda_words::{Word, is_reserved, is_word};
+
+/// Whether two words are written alike.
+pub fn is_same(a: &Word, b: &Word) -> bool
+    ensures { result ≡ is_same a.now b.now }
+{
+    is_word(a.text.as_slice(), b.text.as_slice())
+}
+
+// Whether a word is written like one of these.
+pub(crate) fn is_one_of(words: &[Word], word: &Word) -> bool
+    ensures { result ≡ is_one_of words.now word.now }
+{
+    words.iter().any(|w| is_same(word, w))
+}
+
+// A number for each setting.
+fn kind_number(kind: SettingKind) -> u8
+    ensures { result ≡ kind_number kind }
+{
+    match kind {
+        SettingKind::Kernel => 0,
+        SettingKind::BurstWidth => 1,
+        SettingKind::UnrollFactor => 2,
+        SettingKind::Iterate => 3,
+        SettingKind::Border => 4,
+        SettingKind::Cluster => 5,
+    }
+}
+
+// Whether one of the settings is of this kind.
+fn has_kind(settings: &[Setting], kind: SettingKind) -> bool
+    ensures { result ≡ list_any (is_kind kind) settings.now }
+{
+    settings
+        .iter()
+        .any(|s| kind_number(kind) == kind_number(s.kind))
+}
+
+// Whether there is an output.
+fn has_output(defined: &[Defined]) -> bool
+    ensures { result ≡ has_output defined.now }
+{
+    defined.iter().any(|d| d.is_output)
+}
+
+/// The first need that no statement fills.
+pub fn missing(outline: &Outline) -> Option<Need>
+    ensures { result ≡ missing outline.now }
+{
+    let settings = outline.settings.as_slice();
+    if !has_kind(settings, SettingKind::Kernel) {
+        return Some(Need::Kernel);
+    }
+    if !has_kind(settings, SettingKind::BurstWidth) {
+        return Some(Need::BurstWidth);
+    }
+    if !has_kind(settings, SettingKind::UnrollFactor) {
+        return Some(Need::UnrollFactor);
+    }
+    if outline.inputs.len() == 0 {
+        return Some(Need::Input);
+    }
+    if !has_output(outline.defined.as_slice()) {
+        return Some(Need::Output);
+    }
+    None
+}
+
+/// The line of the first type word or cast word that begins as a float type.
+pub fn float_type(outline: &Outline) -> Option<u64>
+    ensures { result ≡ float_type outline.now }
+{
+    let types = outline.types.as_slice();
+    for word in types {
+        if is_float(word.text.as_slice()) {
+            return Some(word.line);
+        }
+    }
+    None
+}
+
+/// The line of the first type word or cast word that stands for no integer type.
+pub fn bad_width(outline: &Outline) -> Option<u64>
+    ensures { result ≡ bad_width outline.now }
+{
+    let types = outline.types.as_slice();
+    for word in types {
+        if type_of(word.text.as_slice()).is_none() {
+            return Some(word.line);
+        }
+    }
+    None
+}
+
+// The line of a site.
+pub(crate) fn site_line(site: &Site) -> u64
+    ensures { result ≡ site_line site.now }
+{
+    match site {
+        Site::Size(size) => size.line,
+        Site::Left { name, .. } => name.line,
+        Site::Cell { name, .. } => name.line,
+        Site::Value { name, .. } => name.line,
+    }
+}
+
+// Whether a name in a formula is none of these.
+fn is_unknown(declared: &[Word], site: &Site) -> bool
+    ensures { result ≡ is_unknown declared.now site.now }
+{
+    match site {
+        Site::Size(_) => false,
+        Site::Left { .. } => false,
+        Site::Cell { name, .. } => !is_one_of(declared, name),
+        Site::Value { name, .. } => !is_one_of(declared, name),
+    }
+}
+
+/// The line of the first name in a formula that is declared nowhere.
+pub fn unknown_name(outline: &Outline) -> Option<u64>
+    ensures { result ≡ unknown_name outline.now }
+{
+    let sites = outline.sites.as_slice();
+    for site in sites {
+        if is_unknown(outline.declared.as_slice(), site) {
+            return Some(site_line(site));
+        }
+    }
+    None
+}
+
+/// The line of the first setting that repeats one.
+pub fn twice(outline: &Outline) -> Option<u64>
+    ensures { result ≡ twice outline.now }
+{
+    let settings = outline.settings.as_slice();
+    for (i, setting) in settings.iter().enumerate() {
+        if has_kind(&settings[..i], setting.kind) {
+            return Some(setting.line);
+        }
+    }
+    None
+}
+
+/// The line of the first declared name that is reserved or declared before it.
+pub fn name_twice(outline: &Outline) -> Option<u64>
+    ensures { result ≡ name_twice outline.now }
+{
+    let declared = outline.declared.as_slice();
+    for (i, word) in declared.iter().enumerate() {
+        if is_reserved(word.text.as_slice()) || is_one_of(&declared[..i], word) {
+            return Some(word.line);
+        }
+    }
+    None
+}

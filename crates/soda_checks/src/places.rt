@@ -1,0 +1,233 @@
+ghost use Rattle.std.specs.Prelude.{◌≡◌, option_map, find, slice_get};
+ghost use Rattle.std.specs.List.{list_any};
+ghost use Rattle.std.specs.Option.{option_copied};
+ghost use Rattle.soda_checks.specs.Outline.{is_same};
+ghost use Rattle.soda_checks.specs.Conditions.{are_below, first_tile, has_wrong_dims, has_wrong_tile, is_same_extent, is_same_tile, is_tensor, is_tile, is_wrong_site, is_wrong_value, param_use, site_line, wrong_dims, wrong_tile};
+
+use crate::conditions::{is_same, site_line};
+use crate::{Defined, Outline, Site};
+use soda_syntax::{Extent, InputLine, ParamLine, Size};
+use soda_words::Word;
+use sqlite_items::Items;
+
+// Whether an input has this name.
+fn is_input(inputs: &[InputLine], word: &Word) -> bool
+    ensures { result ≡ list_any (λ i. is_same word.now i.name) inputs.now }
+{
+    inputs.iter().any(|i| is_same(word, &i.name))
+}
+
+// Whether a local or output has this name.
+fn is_defined(defined: &[Defined], word: &Word) -> bool
+    ensures { result ≡ list_any (λ d. is_same word.now d.name) defined.now }
+{
+    defined.iter().any(|d| is_same(word, &d.name))
+}
+
+/// Whether a tensor has this name.
+pub fn is_tensor(outline: &Outline, word: &Word) -> bool
+    ensures { result ≡ is_tensor outline.now word.now }
+{
+    is_input(outline.inputs.as_slice(), word) || is_defined(outline.defined.as_slice(), word)
+}
+
+/// The first tile of a text.
+pub fn first_tile(inputs: &[InputLine]) -> Option<&Items<Extent>>
+    ensures { option_copied result ≡ first_tile inputs.now }
+{
+    for input in inputs {
+        if let Some(tile) = &input.tile {
+            return Some(tile);
+        }
+    }
+    None
+}
+
+// Whether a left side, or a cell of a tensor, has not so many offsets.
+fn has_wrong_dims(outline: &Outline, dims: usize, site: &Site) -> bool
+    ensures { result ≡ has_wrong_dims outline.now dims site.now }
+{
+    match site {
+        Site::Size(_) => false,
+        Site::Left { offsets, .. } => offsets.len() != dims,
+        Site::Cell { name, offsets } => is_tensor(outline, name) && offsets.len() != dims,
+        Site::Value { .. } => false,
+    }
+}
+
+// The line of the first site that has not so many offsets.
+fn wrong_dims_at(outline: &Outline, dims: usize) -> Option<u64>
+    ensures { result ≡ option_map site_line (find (has_wrong_dims outline.now dims) outline.now.sites) }
+{
+    let sites = outline.sites.as_slice();
+    for site in sites {
+        if has_wrong_dims(outline, dims, site) {
+            return Some(site_line(site));
+        }
+    }
+    None
+}
+
+/// The line of the first left side or cell that has not as many offsets as the first tile has items.
+pub fn wrong_dims(outline: &Outline) -> Option<u64>
+    ensures { result ≡ wrong_dims outline.now }
+{
+    match first_tile(outline.inputs.as_slice()) {
+        Some(tile) => wrong_dims_at(outline, tile.len()),
+        None => None,
+    }
+}
+
+// Whether the last item and no other is `*`, and no extent is 0.
+fn is_tile(items: &[Extent]) -> bool
+    ensures { result ≡ is_tile items.now }
+{
+    for (i, item) in items.iter().enumerate() {
+        match item {
+            Extent::Open => return i + 1 == items.len(),
+            Extent::Fixed(n) => {
+                if *n == 0 {
+                    return false;
+                }
+            }
+        }
+    }
+    false
+}
+
+// Whether two extents are one.
+fn is_same_extent(a: Extent, b: Extent) -> bool
+    ensures { result ≡ is_same_extent a b }
+{
+    match (a, b) {
+        (Extent::Fixed(m), Extent::Fixed(n)) => m == n,
+        (Extent::Fixed(_), Extent::Open) => false,
+        (Extent::Open, Extent::Fixed(_)) => false,
+        (Extent::Open, Extent::Open) => true,
+    }
+}
+
+// Whether two tiles have the same extents, in order.
+fn is_same_tile(a: &[Extent], b: &[Extent]) -> bool
+    ensures { result ≡ is_same_tile a.now b.now }
+{
+    for (i, extent) in a.iter().enumerate() {
+        if i >= b.len() {
+            return false;
+        }
+        if !is_same_extent(*extent, b[i]) {
+            return false;
+        }
+    }
+    match &b[a.len()..] {
+        [] => true,
+        _ => false,
+    }
+}
+
+// Whether an input has a tile that is none, or not the first one.
+fn has_wrong_tile(first: &[Extent], input: &InputLine) -> bool
+    ensures { result ≡ has_wrong_tile first.now input.now }
+{
+    match &input.tile {
+        Some(tile) => !(is_tile(tile.as_slice()) && is_same_tile(tile.as_slice(), first)),
+        None => false,
+    }
+}
+
+// The line of the name of the first input whose tile is wrong, beside the first tile of the text.
+fn wrong_tile_at(first: &[Extent], inputs: &[InputLine]) -> Option<u64>
+    ensures { result ≡ option_map (λ i. i.name.line) (find (has_wrong_tile first.now) inputs.now) }
+{
+    for input in inputs {
+        if has_wrong_tile(first, input) {
+            return Some(input.name.line);
+        }
+    }
+    None
+}
+
+// The line of the name of the first input.
+fn first_line(inputs: &[InputLine]) -> Option<u64>
+    ensures { result ≡ option_map (λ i. i.name.line) (slice_get inputs.now 0) }
+{
+    match inputs {
+        [] => None,
+        [input, ..] => Some(input.name.line),
+    }
+}
+
+/// The line of the name of the first input whose tile is wrong, or of the first input where none has a
+/// tile.
+pub fn wrong_tile(outline: &Outline) -> Option<u64>
+    ensures { result ≡ wrong_tile outline.now }
+{
+    let inputs = outline.inputs.as_slice();
+    match first_tile(inputs) {
+        Some(tile) => wrong_tile_at(tile.as_slice(), inputs),
+        None => first_line(inputs),
+    }
+}
+
+/// Whether there are as many indexes as sizes, each below its size.
+pub fn are_below(indexes: &[u64], sizes: &[Size]) -> bool
+    ensures { result ≡ are_below indexes.now sizes.now }
+{
+    match indexes {
+        [] => sizes.len() == 0,
+        [i, is @ ..] => match sizes {
+            [] => false,
+            [s, ss @ ..] => *i < s.value && are_below(is, ss),
+        },
+    }
+}
+
+/// The param of this name.
+pub fn param_of<'a>(params: &'a [ParamLine], word: &Word) -> Option<&'a ParamLine>
+    ensures { option_copied result ≡ find (λ q. is_same word.now q.name) params.now }
+{
+    for param in params {
+        if is_same(word, &param.name) {
+            return Some(param);
+        }
+    }
+    None
+}
+
+// Whether the name is no param with as many sizes as indexes, each index below its size.
+fn is_wrong_value(params: &[ParamLine], word: &Word, indexes: &[u64]) -> bool
+    ensures { result ≡ is_wrong_value params.now word.now indexes.now }
+{
+    match param_of(params, word) {
+        Some(param) => !are_below(indexes, param.sizes.as_slice()),
+        None => true,
+    }
+}
+
+// Whether it is a size of 0, a name with offsets that is no tensor, or one without that is no param
+// with such indexes.
+fn is_wrong_site(outline: &Outline, site: &Site) -> bool
+    ensures { result ≡ is_wrong_site outline.now site.now }
+{
+    match site {
+        Site::Size(size) => size.value == 0,
+        Site::Left { .. } => false,
+        Site::Cell { name, .. } => !is_tensor(outline, name),
+        Site::Value { name, indexes } => {
+            is_wrong_value(outline.params.as_slice(), name, indexes.as_slice())
+        }
+    }
+}
+
+/// The line of the first size of 0, or of the first name in a formula that is used as what it isn't.
+pub fn param_use(outline: &Outline) -> Option<u64>
+    ensures { result ≡ param_use outline.now }
+{
+    let sites = outline.sites.as_slice();
+    for site in sites {
+        if is_wrong_site(outline, site) {
+            return Some(site_line(site));
+        }
+    }
+    None
+}

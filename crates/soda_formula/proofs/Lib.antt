@@ -1,0 +1,11 @@
+pub mod Words
+pub mod Complete
+pub mod Sound
+pub mod Operands
+pub mod Viable
+pub mod Laws
+pub mod Tree
+pub mod Frames
+pub mod Fronts
+pub mod Refusals
+mod Examples

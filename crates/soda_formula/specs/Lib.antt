@@ -1,0 +1,7 @@
+pub mod Terms
+pub mod Grammar
+pub mod Reading
+pub mod Tree
+pub mod Fails
+pub mod Machine
+pub mod Views

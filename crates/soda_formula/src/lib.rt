@@ -1,0 +1,24 @@
+//! Formulas of program texts: their grammar, and reading one from the front of tokens.
+#![tactic(auto)]
+
+mod frame;
+mod grammar_laws;
+mod lists;
+mod marks;
+mod names;
+mod operators;
+mod reader;
+mod reading;
+mod size;
+mod stack;
+#[cfg(test)]
+mod tests;
+mod trees;
+mod values;
+mod written;
+
+pub use grammar_laws::{formula_is_one, formula_is_some, name_ends_formula, no_equals_sign};
+pub use reading::{FormulaFail, read_formula};
+/// Want of memory.
+pub use std::alloc::AllocError as NoMemory;
+pub use written::Written;

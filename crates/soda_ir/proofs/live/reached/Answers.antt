@@ -1,0 +1,23 @@
+use Rattle.std.proofs.Common.{false, length, slice_index_or, sym, ◌∙◌, ap}
+use Rattle.soda_ir.specs.Counts.{reads_in}
+use Rattle.soda_ir.proofs.Reached.{behind_none, lent, reached_none, round, round_behind}
+use Rattle.soda_ir.proofs.live.reached.Goals as goal
+
+pub loop-round-init : goal.loop-round-init
+loop-round-init c = record {
+  each = ap length c.in_ok-marks.ensures.items ∙ c.requires.each;
+  reached = λ y l. ap (λ xs. slice_index_or xs y false) c.in_ok-marks.ensures.items ∙ sym (reached_none (reads_in c.args.graph.now) (length c.args.graph.now) (λ x. slice_index_or c.args.wanted.now x false) y);
+  behind = λ y l. behind_none (reads_in c.args.graph.now) (length c.args.graph.now) y c.new-before.result.items _ c.new-before.ensures.items;
+}
+
+pub loop-round-preserved : goal.loop-round-preserved
+loop-round-preserved c =
+    let n = length c.args.graph.now in
+    let r = reads_in c.args.graph.now in
+    let inv = c.loop-round.invariant in
+    let step = lent r n c.loop-round.before.items c.deref.result.now c.loop-round.marks.items c.deref-in-loop-round.result.now c.in_ok-next.next.items c.deref.ensures.value c.deref-in-loop-round.ensures.value inv.each c.in_ok-next.ensures.1 in
+    record {
+      each = c.in_ok-next.ensures.0 ∙ ap length c.deref-in-loop-round.ensures.value ∙ inv.each;
+      reached = round r n c.loop-round.round (λ x. slice_index_or c.args.wanted.now x false) c.loop-round.before.items c.loop-round.marks.items c.in_ok-next.next.items inv.reached inv.behind step;
+      behind = round_behind r n c.loop-round.before.items c.loop-round.marks.items c.in_ok-next.next.items inv.behind step;
+    }

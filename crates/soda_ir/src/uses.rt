@@ -1,0 +1,117 @@
+ghost use Rattle.std.specs.Prelude.{◌≡◌, ◌&&◌};
+ghost use Rattle.soda_ir.specs.Counts.{is_input_role, is_output_role};
+ghost use Rattle.soda_ir.specs.Program.{plain, plain_tensor};
+ghost use Rattle.soda_ir.specs.Tree.{formula_of};
+ghost use Rattle.soda_ir.specs.Uses.{each_use, is_good_cell, is_good_place, is_near};
+ghost use Rattle.soda_ir.specs.Valid.{has_formula_if_no_input, has_good_uses, is_small};
+
+use crate::expr::{Expr, Offset};
+use crate::params::product;
+use crate::program::{Parts, Role, Tensor};
+use crate::written::{most_open, token_count};
+
+/// The greatest magnitude of an offset's component.
+const FAR: u64 = 32_768;
+
+/// The most tokens of a formula.
+const TOKENS: u64 = 1_500;
+
+/// The most brackets that are open at once in a formula.
+const BRACKETS: u64 = 64;
+
+fn is_near(offset: &[i64]) -> bool
+    ensures { result ≡ is_near offset.now }
+{
+    offset.iter().all(|d| d.unsigned_abs() <= FAR)
+}
+
+fn is_good_cell(parts: &Parts, tensor: u32, offset: &Offset) -> bool
+    ensures { result ≡ is_good_cell (plain parts.now) tensor offset.now.items }
+{
+    let dims = parts.extents.len() as u128 + 1;
+    (tensor as usize) < parts.tensors.len()
+        && offset.len() as u128 == dims
+        && is_near(offset.as_slice())
+}
+
+fn is_good_place(parts: &Parts, param: u32, place: u32) -> bool
+    ensures { result ≡ is_good_place (plain parts.now) param place }
+{
+    match parts.params.get(param as usize) {
+        Some(param) => (place as u128) < product(param.sizes.as_slice()),
+        None => false,
+    }
+}
+
+#[tactic(auto, using(crate::proofs::Tree::levels))]
+fn names_what_is_there(parts: &Parts, expr: &Expr) -> bool
+    ensures { result ≡ each_use (is_good_cell (plain parts.now)) (is_good_place (plain parts.now)) (formula_of expr.now) }
+{
+    match expr {
+        Expr::Num(_) => true,
+        Expr::Cell { tensor, offset } => is_good_cell(parts, *tensor, offset),
+        Expr::Par { param, place } => is_good_place(parts, *param, *place),
+        Expr::Un(_, a) => names_what_is_there(parts, a.get()),
+        Expr::Bin(_, a, b) => {
+            names_what_is_there(parts, a.get()) && names_what_is_there(parts, b.get())
+        }
+        Expr::Select(c, a, b) => {
+            names_what_is_there(parts, c.get())
+                && names_what_is_there(parts, a.get())
+                && names_what_is_there(parts, b.get())
+        }
+        Expr::Cast(_, a) => names_what_is_there(parts, a.get()),
+    }
+}
+
+/// Whether a formula names tensors, params and places that are there, at offsets that may be.
+pub(crate) fn has_good_uses(parts: &Parts, tensor: &Tensor) -> bool
+    ensures { result ≡ has_good_uses (plain parts.now) (plain_tensor tensor.now) }
+{
+    match &tensor.formula {
+        Some(formula) => names_what_is_there(parts, formula),
+        None => true,
+    }
+}
+
+/// Whether a formula keeps the size rules as it is written.
+pub(crate) fn is_small(parts: &Parts, tensor: &Tensor) -> bool
+    ensures { result ≡ is_small (plain parts.now) (plain_tensor tensor.now) }
+{
+    match &tensor.formula {
+        Some(formula) => {
+            token_count(parts, formula) <= TOKENS && most_open(parts, formula) <= BRACKETS
+        }
+        None => true,
+    }
+}
+
+/// Whether a tensor has a formula exactly where it is no input.
+pub(crate) fn has_formula_if_no_input(tensor: &Tensor) -> bool
+    ensures { result ≡ has_formula_if_no_input (plain_tensor tensor.now) }
+{
+    match &tensor.formula {
+        Some(_) => !is_input(tensor.role),
+        None => is_input(tensor.role),
+    }
+}
+
+/// Whether this is the role of an input.
+pub(crate) fn is_input(role: Role) -> bool
+    ensures { result ≡ is_input_role role }
+{
+    match role {
+        Role::Input => true,
+        Role::Local | Role::Output => false,
+    }
+}
+
+/// Whether this is the role of an output.
+pub(crate) fn is_output(role: Role) -> bool
+    ensures { result ≡ is_output_role role }
+{
+    match role {
+        Role::Input | Role::Local => false,
+        Role::Output => true,
+    }
+}

@@ -1,0 +1,198 @@
+ghost use Rattle.std.specs.Prelude.{◌≡◌, ◌<◌, ◌≤◌, ◌&&◌, ◌==◌, ◌↔◌, [], ◌∷◌, ◌++◌, suc, not, nat_le, map, length, IfOk, OnOk, IsTrue, if◌then◌else◌};
+ghost use Rattle.std.specs.List.{list_all, list_any};
+ghost use Rattle.int_types.specs.IntType.{IntType};
+ghost use Rattle.soda_ir.specs.Counts.{is_input_role, is_output_role};
+ghost use Rattle.soda_ir.specs.Points.{size};
+ghost use Rattle.soda_ir.specs.Program.{input_types, plain, plain_param, plain_tensor};
+ghost use Rattle.soda_ir.specs.Valid.{cell_size, fills_burst, has_formula_if_no_input, has_good_uses, has_inputs_first, is_good_param, is_small, output_types, value_count};
+
+use crate::NoMemory;
+use crate::params::{product, value_count};
+use crate::program::{Param, Parts, Role, Tensor};
+use crate::uses::{has_formula_if_no_input, has_good_uses, is_input, is_output, is_small};
+use int_types::{Ty, cell_bytes};
+use std::alloc::Global;
+
+/// The greatest product of the fixed extents.
+const TILE: u128 = 16_777_216;
+
+/// The most values of all params together.
+const VALUES: u128 = 65_536;
+
+/// Whether the unroll factor and the number of iterations are within their limits.
+pub(crate) fn has_good_factors(parts: &Parts) -> bool
+    ensures { result ≡ (nat_le 1 parts.now.unroll && nat_le parts.now.unroll 64 && nat_le 1 parts.now.iterate && nat_le parts.now.iterate 64) }
+{
+    1 <= parts.unroll && parts.unroll <= 64 && 1 <= parts.iterate && parts.iterate <= 64
+}
+
+/// Whether a burst is from 8 to 8,192 bits wide.
+pub(crate) fn has_good_burst(parts: &Parts) -> bool
+    ensures { result ≡ (nat_le 8 parts.now.burst && nat_le parts.now.burst 8192) }
+{
+    8 <= parts.burst && parts.burst <= 8_192
+}
+
+/// Whether the numbers of dimensions and of tensors are within their limits.
+pub(crate) fn has_few_of_each(parts: &Parts) -> bool
+    ensures { result ≡ (nat_le (suc (length parts.now.extents)) 4 && nat_le (length parts.now.tensors) 512) }
+{
+    parts.extents.len() < 4 && parts.tensors.len() <= 512
+}
+
+/// Whether no extent is 0, and their product is within its limit.
+pub(crate) fn has_good_tile(extents: &[u64]) -> bool
+    ensures { result ≡ (list_all (λ n. not (n == 0)) extents.now && nat_le (size extents.now) 16777216) }
+{
+    has_no_zero(extents) && product(extents) <= TILE
+}
+
+fn has_no_zero(numbers: &[u64]) -> bool
+    ensures { result ≡ list_all (λ n. not (n == 0)) numbers.now }
+{
+    numbers.iter().all(|n| *n != 0)
+}
+
+/// Whether the params have few values together.
+pub(crate) fn has_few_values(params: &[Param]) -> bool
+    ensures { result ≡ nat_le (value_count (map plain_param params.now)) 65536 }
+{
+    value_count(params) <= VALUES
+}
+
+fn is_good_param(param: &Param) -> bool
+    ensures { result ≡ is_good_param (plain_param param.now) }
+{
+    param.sizes.len() <= 2 && has_no_zero(param.sizes.as_slice())
+}
+
+/// Whether each param has at most two sizes, none of them 0.
+pub(crate) fn has_good_params(params: &[Param]) -> bool
+    ensures { result ≡ list_all (λ q. is_good_param (plain_param q)) params.now }
+{
+    params.iter().all(|q| is_good_param(q))
+}
+
+/// Whether no input stands behind a local or output.
+pub(crate) fn has_inputs_first(tensors: &[Tensor]) -> bool
+    ensures { result ≡ has_inputs_first (map plain_tensor tensors.now) }
+{
+    match tensors {
+        [] => true,
+        [tensor, rest @ ..] => {
+            if is_input(tensor.role) {
+                has_inputs_first(rest)
+            } else {
+                has_no_input(rest)
+            }
+        }
+    }
+}
+
+fn has_no_input(tensors: &[Tensor]) -> bool
+    ensures { result ≡ list_all (λ u. not (is_input_role u.role)) tensors.now }
+{
+    tensors.iter().all(|u| !is_input(u.role))
+}
+
+fn cell_size(ty: Ty) -> u64
+    ensures value { result ≡ cell_size ty }
+    ensures some { 0 < result }
+    ensures most { result ≤ 8 }
+{
+    let _bits = ty.bits();
+    cell_bytes(ty) as u64
+}
+
+fn fills_burst(width: u64, tensor: &Tensor) -> bool
+    ensures { result ≡ fills_burst width (plain_tensor tensor.now) }
+{
+    match tensor.role {
+        Role::Local => true,
+        Role::Input | Role::Output => width % (8 * cell_size(tensor.ty)) == 0,
+    }
+}
+
+/// Whether an input is there.
+pub(crate) fn has_input(tensors: &[Tensor]) -> bool
+    ensures { result ≡ list_any (λ t. is_input_role t.role) tensors.now }
+{
+    tensors.iter().any(|t| is_input(t.role))
+}
+
+/// Whether an output is there.
+pub(crate) fn has_output(tensors: &[Tensor]) -> bool
+    ensures { result ≡ list_any (λ t. is_output_role t.role) tensors.now }
+{
+    tensors.iter().any(|t| is_output(t.role))
+}
+
+/// Whether whole cells of each input and output fill a burst.
+pub fn fill_burst(width: u64, tensors: &[Tensor]) -> bool
+    ensures { result ≡ list_all (λ t. fills_burst width (plain_tensor t)) tensors.now }
+{
+    tensors.iter().all(|t| fills_burst(width, t))
+}
+
+/// Whether each tensor has a formula exactly where it is no input.
+pub(crate) fn have_formulas(tensors: &[Tensor]) -> bool
+    ensures { result ≡ list_all (λ t. has_formula_if_no_input (plain_tensor t)) tensors.now }
+{
+    tensors.iter().all(|t| has_formula_if_no_input(t))
+}
+
+/// Whether each formula names what is there, at offsets that may be.
+pub(crate) fn have_good_uses(parts: &Parts) -> bool
+    ensures { result ≡ list_all (λ t. has_good_uses (plain parts.now) (plain_tensor t)) parts.now.tensors }
+{
+    parts
+        .tensors
+        .as_slice()
+        .iter()
+        .all(|t| has_good_uses(parts, t))
+}
+
+/// Whether each formula keeps the size rules.
+pub(crate) fn are_small(parts: &Parts) -> bool
+    ensures { result ≡ list_all (λ t. is_small (plain parts.now) (plain_tensor t)) parts.now.tensors }
+{
+    parts.tensors.as_slice().iter().all(|t| is_small(parts, t))
+}
+
+fn push_if(types: &mut Vec<Ty>, wanted: bool, ty: Ty) -> Result<(), NoMemory>
+    ensures { OnOk result (types.new.items ≡ types.old.items ++ (if wanted then ty ∷ [] else [])) }
+{
+    if wanted {
+        types.push(ty)?;
+    }
+    Ok(())
+}
+
+fn types_in(alloc: Global, tensors: &[Tensor]) -> Result<Vec<Ty>, NoMemory>
+    ensures { IfOk result (λ types. types.items ≡ input_types (map plain_tensor tensors.now)) }
+{
+    let mut types = Vec::new(alloc);
+    for tensor in tensors {
+        push_if(&mut types, is_input(tensor.role), tensor.ty)?;
+    }
+    Ok(types)
+}
+
+fn types_out(alloc: Global, tensors: &[Tensor]) -> Result<Vec<Ty>, NoMemory>
+    ensures { IfOk result (λ types. types.items ≡ output_types (map plain_tensor tensors.now)) }
+{
+    let mut types = Vec::new(alloc);
+    for tensor in tensors {
+        push_if(&mut types, is_output(tensor.role), tensor.ty)?;
+    }
+    Ok(types)
+}
+
+/// Whether there are as many inputs as outputs, of equal types in order.
+pub fn outputs_fit(alloc: Global, tensors: &[Tensor]) -> Result<bool, NoMemory>
+    ensures { IfOk result (λ fit. IsTrue fit ↔ (input_types (map plain_tensor tensors.now) ≡ output_types (map plain_tensor tensors.now))) }
+{
+    let inputs = types_in(alloc, tensors)?;
+    let outputs = types_out(alloc, tensors)?;
+    Ok(inputs.as_slice() == outputs.as_slice())
+}

@@ -1,0 +1,4 @@
+pub mod Meaning
+pub mod Limits
+pub mod Text
+pub mod Fails

@@ -1,0 +1,18 @@
+//! Program texts: which are accepted, as which programs, and which are refused, and why.
+#![tactic(auto)]
+
+mod formulas;
+mod limits;
+mod program;
+mod reading;
+mod refusal;
+mod refusing;
+#[cfg(test)]
+mod tests;
+
+pub use reading::{ParseFail, parse};
+pub use refusal::Refusal;
+pub use soda_checks::Need;
+pub use soda_ir::LimitKind;
+/// Want of memory.
+pub use std::alloc::AllocError as NoMemory;

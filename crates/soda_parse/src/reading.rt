@@ -1,0 +1,128 @@
+ghost use Rattle.std.specs.Prelude.{◌≡◌, ◌<◌, ◌≤◌, ◌^◌, None, length, map, IfOk};
+ghost use Rattle.soda_checks.specs.Outline.{outline_of};
+ghost use Rattle.soda_ir.specs.Program.{PlainProgram, plain};
+ghost use Rattle.soda_ir.specs.Valid.{IsValid};
+ghost use Rattle.soda_parse.specs.Fails.{IfRefused, unread};
+ghost use Rattle.soda_parse.specs.Meaning.{program_by};
+ghost use Rattle.soda_parse.specs.Text.{Accepts, Refuses, refusal_by};
+ghost use Rattle.soda_parse.specs.declared.refusal.Refusal.{Refusal as Cause};
+ghost use Rattle.soda_syntax.specs.Statements.{plain_statement};
+ghost use Rattle.soda_syntax.specs.SyntaxError.{IsSyntax};
+ghost use Rattle.soda_words.specs.Tokens.{not_ascii, tokens_of};
+
+use crate::program::make_parts;
+use crate::refusing::refusal_by;
+use crate::{NoMemory, Refusal};
+use soda_checks::make_outline;
+use soda_ir::{MakeRefusal, Parts, Program};
+use soda_syntax::{Statement, SyntaxFail, read_statements};
+use soda_words::not_ascii;
+use std::alloc::Global;
+
+/// Why a text gives no program.
+#[derive(Clone, Copy, Debug, PartialEq, Eq)]
+pub enum ParseFail {
+    /// The first condition on texts that fails, with its line or number.
+    Refused(Refusal),
+    /// Want of memory.
+    Memory,
+}
+
+// The program of valid parts.
+fn make_program(alloc: Global, parts: Parts) -> Result<Program, NoMemory>
+    requires { IsValid (plain parts) }
+    ensures { IfOk result (λ p. p ≡ parts) }
+{
+    match Program::make(alloc, parts) {
+        Ok(program) => Ok(program),
+        Err(MakeRefusal::Invalid) => unreachable!(),
+        Err(MakeRefusal::Memory) => Err(NoMemory),
+    }
+}
+
+// The parts of the program that the statements of a text stand for, and why it is refused, if it is.
+struct Judged {
+    parts: Parts,
+    refusal: Option<Refusal>,
+}
+
+fn judge(alloc: Global, text: &[u8], statements: &[Statement]) -> Result<Judged, NoMemory>
+    requires short { length text.now < 2 ^ 32 }
+    requires syntax { IsSyntax (tokens_of text.now) (map plain_statement statements.now) }
+    ensures parts { IfOk result (λ judged. plain judged.parts ≡ program_by (outline_of (map plain_statement statements.now)) (map plain_statement statements.now)) }
+    ensures refusal { IfOk result (λ judged. judged.refusal ≡ refusal_by (outline_of (map plain_statement statements.now)) (plain judged.parts)) }
+{
+    let _ = text;
+    let outline = make_outline(alloc, statements)?;
+    let parts = make_parts(alloc, &outline, statements)?;
+    let refusal = refusal_by(alloc, &outline, &parts)?;
+    Ok(Judged { parts, refusal })
+}
+
+// The program that the statements of a text stand for, or why it is refused.
+fn program_of(
+    alloc: Global,
+    text: &[u8],
+    most: u32,
+    statements: &[Statement],
+) -> Result<Program, ParseFail>
+    requires short { length text.now ≤ most }
+    requires ascii { not_ascii text.now ≡ None }
+    requires syntax { IsSyntax (tokens_of text.now) (map plain_statement statements.now) }
+    ensures accepted { IfOk result (λ p. Accepts most text.now (plain p)) }
+    ensures refused { IfRefused result (Refuses most text.now) }
+{
+    let _ = most;
+    let Ok(judged) = judge(alloc, text, statements) else {
+        return Err(ParseFail::Memory);
+    };
+    let Judged { parts, refusal } = judged;
+    if let Some(refusal) = refusal {
+        return Err(ParseFail::Refused(refusal));
+    }
+    match make_program(alloc, parts) {
+        Ok(program) => Ok(program),
+        Err(NoMemory) => Err(ParseFail::Memory),
+    }
+}
+
+// The answer to a text whose statements were not read.
+fn unread(fail: SyntaxFail) -> ParseFail
+    ensures { result ≡ unread fail }
+{
+    match fail {
+        SyntaxFail::Refused(line) => ParseFail::Refused(Refusal::Syntax(line)),
+        SyntaxFail::Memory => ParseFail::Memory,
+    }
+}
+
+// The program that a text stands for, or why it is refused.
+fn read_text(alloc: Global, text: &[u8], most: u32) -> Result<Program, ParseFail>
+    ensures accepted { IfOk result (λ p. Accepts most text.now (plain p)) }
+    ensures refused { IfRefused result (Refuses most text.now) }
+{
+    if text.len() > most as usize {
+        return Err(ParseFail::Refused(Refusal::TextTooLong));
+    }
+    if let Some(line) = not_ascii(text) {
+        return Err(ParseFail::Refused(Refusal::NotAscii(line)));
+    }
+    match read_statements(alloc, text) {
+        Ok(statements) => program_of(alloc, text, most, &statements),
+        Err(fail) => Err(unread(fail)),
+    }
+}
+
+/// The program that a text of at most so many bytes stands for. A text is refused by the first of the
+/// conditions that fails: its length, bytes of 128 or more outside comments, the grammar, and then those
+/// on its statements, each with its line or its number.
+pub fn parse(alloc: Global, text: &[u8], most: u32) -> Result<Program, ParseFail>
+    ensures accepted { IfOk result (λ p. Accepts most text.now (plain p)) }
+    ensures only { IfOk result (λ p. (q : PlainProgram) → Accepts most text.now q → q ≡ plain p) }
+    ensures not_refused { IfOk result (λ p. (r : Cause) → Refuses most text.now r → ⊥) }
+    ensures refused { IfRefused result (Refuses most text.now) }
+    ensures first { IfRefused result (λ r. (s : Cause) → Refuses most text.now s → s ≡ r) }
+    ensures not_accepted { IfRefused result (λ r. (q : PlainProgram) → Accepts most text.now q → ⊥) }
+{
+    read_text(alloc, text, most)
+}

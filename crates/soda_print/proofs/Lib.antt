@@ -1,0 +1,4 @@
+pub mod Appended
+mod Examples
+pub mod Operators
+pub mod Written

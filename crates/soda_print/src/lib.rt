@@ -1,0 +1,13 @@
+//! The canonical text of a program.
+#![tactic(auto)]
+
+mod formulas;
+mod lines;
+#[cfg(test)]
+mod tests;
+mod text;
+mod words;
+
+pub use lines::print;
+/// Want of memory.
+pub use std::alloc::AllocError as NoMemory;

@@ -1,0 +1,8 @@
+pub mod Statements
+pub mod Grammar
+pub mod SyntaxError
+pub mod Fails
+pub mod Machine
+pub mod Lines
+pub mod Pieces
+pub mod Refusals

@@ -1,0 +1,489 @@
+ghost use Rattle.std.specs.Prelude.{◌≡◌, IfOk};
+ghost use Rattle.soda_syntax.specs.Machine.{headed, declaring, begun, after_nothing, after_burst, after_unroll, after_heading, edge_value, named_value, number_value, after_colon, typed, at_type, at_bank, after_dram, after_bank_number, after_type, declared_as, at_name, after_sizes, more_sizes, at_size, after_size, untiled, tiled, after_input, more_items, at_item, after_item, at_offsets, more_offsets, at_component, at_magnitude, after_component, at_equals, step, finish};
+
+use crate::stage::{Heading, LeftSide, Next, Role, Setting, Stage, TileSoFar};
+use crate::{Extent, InputLine, ParamLine, Size, Statement};
+use soda_words::{Placed, Symbol, Token, Word, is_word};
+use sqlite_items::Items;
+use std::alloc::{AllocError, Global};
+
+/// The most sizes of a param.
+const MOST_SIZES: usize = 2;
+
+fn word(alloc: Global, line: u64, text: &[u8]) -> Result<Word, AllocError>
+    ensures { IfOk result (λ word. word ≡ record { line = line; text = text.now }) }
+{
+    Ok(Word {
+        line,
+        text: Items::from_slice(alloc, text)?,
+    })
+}
+
+fn headed(setting: Setting, line: u64) -> Next
+    ensures { result ≡ headed setting line }
+{
+    Next::Goes(Stage::SettingColon(Heading { setting, line }))
+}
+
+fn declaring(text: &[u8]) -> Next
+    ensures { result ≡ declaring text.now }
+{
+    if is_word(b"param", text) {
+        Next::Goes(Stage::TypeWord(Role::Parameter))
+    } else if is_word(b"input", text) {
+        Next::Goes(Stage::BankOrType(Role::Source))
+    } else if is_word(b"local", text) {
+        Next::Goes(Stage::TypeWord(Role::Middle))
+    } else if is_word(b"output", text) {
+        Next::Goes(Stage::BankOrType(Role::Target))
+    } else {
+        Next::Wrong
+    }
+}
+
+fn begun(line: u64, text: &[u8]) -> Next
+    ensures { result ≡ begun line text.now }
+{
+    if is_word(b"kernel", text) {
+        headed(Setting::ProgramName, line)
+    } else if is_word(b"burst", text) {
+        Next::Goes(Stage::WidthWord(line))
+    } else if is_word(b"unroll", text) {
+        Next::Goes(Stage::FactorWord(line))
+    } else if is_word(b"iterate", text) {
+        headed(Setting::Times, line)
+    } else if is_word(b"border", text) {
+        headed(Setting::Edge, line)
+    } else if is_word(b"cluster", text) {
+        headed(Setting::Group, line)
+    } else {
+        declaring(text)
+    }
+}
+
+fn after_nothing(line: u64, token: &Token) -> Next
+    ensures { result ≡ after_nothing line token.now }
+{
+    match token {
+        Token::Name(text) => begun(line, text.as_slice()),
+        _ => Next::Wrong,
+    }
+}
+
+fn after_burst(line: u64, token: &Token) -> Next
+    ensures { result ≡ after_burst line token.now }
+{
+    match token {
+        Token::Name(text) => {
+            if is_word(b"width", text.as_slice()) {
+                headed(Setting::Width, line)
+            } else {
+                Next::Wrong
+            }
+        }
+        _ => Next::Wrong,
+    }
+}
+
+fn after_unroll(line: u64, token: &Token) -> Next
+    ensures { result ≡ after_unroll line token.now }
+{
+    match token {
+        Token::Name(text) => {
+            if is_word(b"factor", text.as_slice()) {
+                headed(Setting::Factor, line)
+            } else {
+                Next::Wrong
+            }
+        }
+        _ => Next::Wrong,
+    }
+}
+
+fn after_heading(heading: Heading, token: &Token) -> Next
+    ensures { result ≡ after_heading heading token.now }
+{
+    match token {
+        Token::Sign(Symbol::Colon) => Next::Goes(Stage::SettingValue(heading)),
+        _ => Next::Wrong,
+    }
+}
+
+fn edge_value(line: u64, text: &[u8]) -> Next
+    ensures { result ≡ edge_value line text.now }
+{
+    if is_word(b"ignore", text) {
+        Next::Goes(Stage::Finished(Statement::Border {
+            line,
+            preserve: false,
+        }))
+    } else if is_word(b"preserve", text) {
+        Next::Goes(Stage::Finished(Statement::Border {
+            line,
+            preserve: true,
+        }))
+    } else {
+        Next::Wrong
+    }
+}
+
+fn named_value(alloc: Global, setting: Setting, line: u64, text: &[u8]) -> Result<Next, AllocError>
+    ensures { IfOk result (λ next. next ≡ named_value setting line text.now) }
+{
+    Ok(match setting {
+        Setting::ProgramName => {
+            let text = Items::from_slice(alloc, text)?;
+            Next::Goes(Stage::Finished(Statement::Kernel { line, text }))
+        }
+        Setting::Edge => edge_value(line, text),
+        Setting::Group => Next::Goes(Stage::Finished(Statement::Cluster { line })),
+        _ => Next::Wrong,
+    })
+}
+
+fn number_value(setting: Setting, line: u64, number: u64) -> Next
+    ensures { result ≡ number_value setting line number }
+{
+    match setting {
+        Setting::Width => Next::Goes(Stage::Finished(Statement::BurstWidth {
+            line,
+            width: number,
+        })),
+        Setting::Factor => Next::Goes(Stage::Finished(Statement::UnrollFactor {
+            line,
+            factor: number,
+        })),
+        Setting::Times => Next::Goes(Stage::Finished(Statement::Iterate {
+            line,
+            times: number,
+        })),
+        _ => Next::Wrong,
+    }
+}
+
+fn after_colon(alloc: Global, heading: Heading, token: &Token) -> Result<Next, AllocError>
+    ensures { IfOk result (λ next. next ≡ after_colon heading token.now) }
+{
+    match token {
+        Token::Name(text) => named_value(alloc, heading.setting, heading.line, text.as_slice()),
+        Token::Number(number) => Ok(number_value(heading.setting, heading.line, *number)),
+        _ => Ok(Next::Wrong),
+    }
+}
+
+fn typed(alloc: Global, role: Role, line: u64, text: &[u8]) -> Result<Next, AllocError>
+    ensures { IfOk result (λ next. next ≡ typed role line text.now) }
+{
+    Ok(Next::Goes(Stage::RoleColon(role, word(alloc, line, text)?)))
+}
+
+fn at_type(alloc: Global, role: Role, line: u64, token: &Token) -> Result<Next, AllocError>
+    ensures { IfOk result (λ next. next ≡ at_type role line token.now) }
+{
+    match token {
+        Token::Name(text) => {
+            if is_word(b"dram", text.as_slice()) {
+                Ok(Next::Wrong)
+            } else {
+                typed(alloc, role, line, text.as_slice())
+            }
+        }
+        _ => Ok(Next::Wrong),
+    }
+}
+
+fn at_bank(alloc: Global, role: Role, line: u64, token: &Token) -> Result<Next, AllocError>
+    ensures { IfOk result (λ next. next ≡ at_bank role line token.now) }
+{
+    match token {
+        Token::Name(text) => {
+            if is_word(b"dram", text.as_slice()) {
+                Ok(Next::Goes(Stage::BankNumber(role)))
+            } else {
+                typed(alloc, role, line, text.as_slice())
+            }
+        }
+        _ => Ok(Next::Wrong),
+    }
+}
+
+fn after_dram(role: Role, token: &Token) -> Next
+    ensures { result ≡ after_dram role token.now }
+{
+    match token {
+        Token::Number(_) => Next::Goes(Stage::BankMore(role)),
+        _ => Next::Wrong,
+    }
+}
+
+fn after_bank_number(
+    alloc: Global,
+    role: Role,
+    line: u64,
+    token: &Token,
+) -> Result<Next, AllocError>
+    ensures { IfOk result (λ next. next ≡ after_bank_number role line token.now) }
+{
+    match token {
+        Token::Sign(Symbol::Dot) => Ok(Next::Goes(Stage::BankNumber(role))),
+        _ => at_type(alloc, role, line, token),
+    }
+}
+
+fn after_type(role: Role, ty: Word, token: &Token) -> Next
+    ensures { result ≡ after_type role ty token.now }
+{
+    match token {
+        Token::Sign(Symbol::Colon) => Next::Goes(Stage::RoleName(role, ty)),
+        _ => Next::Wrong,
+    }
+}
+
+fn declared_as(alloc: Global, role: Role, ty: Word, name: Word) -> Stage
+    ensures { result ≡ declared_as role ty name }
+{
+    match role {
+        Role::Parameter => Stage::Sizes(ParamLine {
+            ty,
+            name,
+            sizes: Items::new(alloc),
+        }),
+        Role::Source => Stage::TileOrEnd(TileSoFar {
+            ty,
+            name,
+            items: Items::new(alloc),
+        }),
+        Role::Middle | Role::Target => Stage::OffsetsOpen(LeftSide {
+            role,
+            ty,
+            name,
+            offsets: Items::new(alloc),
+        }),
+    }
+}
+
+fn at_name(
+    alloc: Global,
+    role: Role,
+    ty: Word,
+    line: u64,
+    token: &Token,
+) -> Result<Next, AllocError>
+    ensures { IfOk result (λ next. next ≡ at_name role ty line token.now) }
+{
+    match token {
+        Token::Name(text) => {
+            let name = word(alloc, line, text.as_slice())?;
+            Ok(Next::Goes(declared_as(alloc, role, ty, name)))
+        }
+        _ => Ok(Next::Wrong),
+    }
+}
+
+fn after_sizes(param: ParamLine, token: &Token) -> Next
+    ensures { result ≡ after_sizes param token.now }
+{
+    match token {
+        Token::Sign(Symbol::OpenSquare) => {
+            if param.sizes.len() < MOST_SIZES {
+                Next::Goes(Stage::SizeNumber(param))
+            } else {
+                Next::Whole(Statement::Param(param))
+            }
+        }
+        _ => Next::Whole(Statement::Param(param)),
+    }
+}
+
+fn more_sizes(mut param: ParamLine, line: u64, value: u64) -> Result<ParamLine, AllocError>
+    ensures { IfOk result (λ param'. param' ≡ more_sizes param line value) }
+{
+    param.sizes.push(Size { line, value })?;
+    Ok(param)
+}
+
+fn at_size(param: ParamLine, line: u64, token: &Token) -> Result<Next, AllocError>
+    ensures { IfOk result (λ next. next ≡ at_size param line token.now) }
+{
+    match token {
+        Token::Number(size) => {
+            let param = more_sizes(param, line, *size)?;
+            Ok(Next::Goes(Stage::SizeClose(param)))
+        }
+        _ => Ok(Next::Wrong),
+    }
+}
+
+fn after_size(param: ParamLine, token: &Token) -> Next
+    ensures { result ≡ after_size param token.now }
+{
+    match token {
+        Token::Sign(Symbol::CloseSquare) => Next::Goes(Stage::Sizes(param)),
+        _ => Next::Wrong,
+    }
+}
+
+fn untiled(input: TileSoFar) -> Statement
+    ensures { result ≡ untiled input }
+{
+    Statement::Input(InputLine {
+        ty: input.ty,
+        name: input.name,
+        tile: None,
+    })
+}
+
+fn tiled(input: TileSoFar) -> Statement
+    ensures { result ≡ tiled input }
+{
+    Statement::Input(InputLine {
+        ty: input.ty,
+        name: input.name,
+        tile: Some(input.items),
+    })
+}
+
+fn after_input(input: TileSoFar, token: &Token) -> Next
+    ensures { result ≡ after_input input token.now }
+{
+    match token {
+        Token::Sign(Symbol::OpenRound) => Next::Goes(Stage::TileItem(input)),
+        _ => Next::Whole(untiled(input)),
+    }
+}
+
+fn more_items(mut input: TileSoFar, item: Extent) -> Result<TileSoFar, AllocError>
+    ensures { IfOk result (λ input'. input' ≡ more_items input item) }
+{
+    input.items.push(item)?;
+    Ok(input)
+}
+
+fn at_item(input: TileSoFar, token: &Token) -> Result<Next, AllocError>
+    ensures { IfOk result (λ next. next ≡ at_item input token.now) }
+{
+    let item = match token {
+        Token::Number(extent) => Extent::Fixed(*extent),
+        Token::Sign(Symbol::Star) => Extent::Open,
+        _ => return Ok(Next::Wrong),
+    };
+    let input = more_items(input, item)?;
+    Ok(Next::Goes(Stage::TileMore(input)))
+}
+
+fn after_item(input: TileSoFar, token: &Token) -> Next
+    ensures { result ≡ after_item input token.now }
+{
+    match token {
+        Token::Sign(Symbol::Comma) => Next::Goes(Stage::TileItem(input)),
+        Token::Sign(Symbol::CloseRound) => Next::Goes(Stage::Finished(tiled(input))),
+        _ => Next::Wrong,
+    }
+}
+
+fn at_offsets(left: LeftSide, token: &Token) -> Next
+    ensures { result ≡ at_offsets left token.now }
+{
+    match token {
+        Token::Sign(Symbol::OpenRound) => Next::Goes(Stage::Component(left)),
+        _ => Next::Wrong,
+    }
+}
+
+fn more_offsets(mut left: LeftSide, offset: i128) -> Result<LeftSide, AllocError>
+    ensures { IfOk result (λ left'. left' ≡ more_offsets left offset) }
+{
+    left.offsets.push(offset)?;
+    Ok(left)
+}
+
+fn at_component(left: LeftSide, token: &Token) -> Result<Next, AllocError>
+    ensures { IfOk result (λ next. next ≡ at_component left token.now) }
+{
+    match token {
+        Token::Number(number) => {
+            let left = more_offsets(left, i128::from(*number))?;
+            Ok(Next::Goes(Stage::ComponentMore(left)))
+        }
+        Token::Sign(Symbol::MinusSign) => Ok(Next::Goes(Stage::Magnitude(left))),
+        _ => Ok(Next::Wrong),
+    }
+}
+
+fn at_magnitude(left: LeftSide, token: &Token) -> Result<Next, AllocError>
+    ensures { IfOk result (λ next. next ≡ at_magnitude left token.now) }
+{
+    match token {
+        Token::Number(number) => {
+            let left = more_offsets(left, -i128::from(*number))?;
+            Ok(Next::Goes(Stage::ComponentMore(left)))
+        }
+        _ => Ok(Next::Wrong),
+    }
+}
+
+fn after_component(left: LeftSide, token: &Token) -> Next
+    ensures { result ≡ after_component left token.now }
+{
+    match token {
+        Token::Sign(Symbol::Comma) => Next::Goes(Stage::Component(left)),
+        Token::Sign(Symbol::CloseRound) => Next::Goes(Stage::Equals(left)),
+        _ => Next::Wrong,
+    }
+}
+
+fn at_equals(left: LeftSide, token: &Token) -> Next
+    ensures { result ≡ at_equals left token.now }
+{
+    match token {
+        Token::Sign(Symbol::EqualSign) => Next::Goes(Stage::Formula(left)),
+        _ => Next::Wrong,
+    }
+}
+
+/// What a token is to what is read of a statement.
+#[tactic(auto, unfolding(crate::specs::Machine::step))]
+pub fn step(alloc: Global, stage: Stage, placed: &Placed) -> Result<Next, AllocError>
+    ensures { IfOk result (λ next. next ≡ step stage placed.now) }
+{
+    let line = placed.line;
+    let token = &placed.token;
+    Ok(match stage {
+        Stage::Start => after_nothing(line, token),
+        Stage::WidthWord(first) => after_burst(first, token),
+        Stage::FactorWord(first) => after_unroll(first, token),
+        Stage::SettingColon(heading) => after_heading(heading, token),
+        Stage::SettingValue(heading) => after_colon(alloc, heading, token)?,
+        Stage::Finished(statement) => Next::Whole(statement),
+        Stage::BankOrType(role) => at_bank(alloc, role, line, token)?,
+        Stage::BankNumber(role) => after_dram(role, token),
+        Stage::BankMore(role) => after_bank_number(alloc, role, line, token)?,
+        Stage::TypeWord(role) => at_type(alloc, role, line, token)?,
+        Stage::RoleColon(role, ty) => after_type(role, ty, token),
+        Stage::RoleName(role, ty) => at_name(alloc, role, ty, line, token)?,
+        Stage::Sizes(param) => after_sizes(param, token),
+        Stage::SizeNumber(param) => at_size(param, line, token)?,
+        Stage::SizeClose(param) => after_size(param, token),
+        Stage::TileOrEnd(input) => after_input(input, token),
+        Stage::TileItem(input) => at_item(input, token)?,
+        Stage::TileMore(input) => after_item(input, token),
+        Stage::OffsetsOpen(left) => at_offsets(left, token),
+        Stage::Component(left) => at_component(left, token)?,
+        Stage::Magnitude(left) => at_magnitude(left, token)?,
+        Stage::ComponentMore(left) => after_component(left, token),
+        Stage::Equals(left) => at_equals(left, token),
+        Stage::Formula(_left) => Next::Wrong,
+    })
+}
+
+/// The statement that may end here, but for one with a formula.
+pub fn finish(stage: Stage) -> Option<Statement>
+    ensures { result ≡ finish stage }
+{
+    match stage {
+        Stage::Finished(statement) => Some(statement),
+        Stage::Sizes(param) => Some(Statement::Param(param)),
+        Stage::TileOrEnd(input) => Some(untiled(input)),
+        _ => None,
+    }
+}

@@ -1,0 +1,20 @@
+use std::alloc::AllocError;
+
+/// Why no statement was read.
+pub enum Stop {
+    /// The token of this number is wrong, or the tokens end before it.
+    Wrong(usize),
+    /// Want of memory.
+    Memory,
+}
+
+impl From<AllocError> for Stop {
+    ghost use Rattle.std.specs.Prelude.{◌≡◌};
+    ghost use Rattle.soda_syntax.specs.declared.stop.Stop.{Stop};
+
+    ghost from_gives = { λ _ stop. stop ≡ Stop.Memory };
+
+    fn from(_error: AllocError) -> Self {
+        Stop::Memory
+    }
+}

@@ -1,0 +1,3 @@
+mod Examples
+pub mod Skips
+pub mod Fronts
