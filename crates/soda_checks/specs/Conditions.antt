@@ -1,6 +1,6 @@
 -- The conditions on the names, types and tiles of statements, each as what it finds wrong first.
-use Rattle.std.specs.Prelude.{ℕ, suc, Bool, true, false, not, ◌&&◌, ◌||◌, ◌==◌, nat_lt, List, [], ◌∷◌, ◌++◌, length, Option, Some, None, is_none, option_map, find, filter_map, slice_get, if◌then◌else◌, ℤ}
-use Rattle.std.specs.List.{list_all, list_any}
+use Rattle.std.specs.Prelude.{ℕ, Bool, true, false, not, ◌&&◌, ◌||◌, ◌==◌, nat_lt, List, [], ◌∷◌, ◌++◌, length, Option, Some, None, is_none, option_map, find, slice_get, if◌then◌else◌}
+use Rattle.std.specs.List.{list_any}
 use Rattle.soda_checks.specs.Outline.{is_one_of, is_same}
 use Rattle.soda_checks.specs.Types.{is_float, type_of}
 use Rattle.soda_checks.specs.declared.outline.Defined.{Defined}

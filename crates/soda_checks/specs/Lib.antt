@@ -1,3 +1,4 @@
 pub mod Outline
+pub mod Names
 pub mod Types
 pub mod Conditions

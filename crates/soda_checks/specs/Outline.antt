@@ -1,5 +1,5 @@
 -- What the conditions on a text look at, in the order of its statements.
-use Rattle.std.specs.Prelude.{ℕ, Bool, true, false, ◌||◌, List, [], ◌∷◌, ◌++◌, map, filter}
+use Rattle.std.specs.Prelude.{ℕ, Bool, true, false, List, [], ◌∷◌, ◌++◌, map, filter}
 use Rattle.std.specs.List.{list_any}
 use Rattle.soda_formula.specs.Terms.{Term, literal, cell, value, unary, binary, choice, cast}
 use Rattle.soda_checks.specs.declared.outline.Defined.{Defined}

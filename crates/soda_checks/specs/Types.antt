@@ -1,5 +1,5 @@
 -- The integer types that words stand for.
-use Rattle.std.specs.Prelude.{ℕ, ◌&&◌, Bool, true, false, nat_le, List, ◌∷◌, [], codes, Option, Some, None, is_some, is_none, option_map, if◌then◌else◌}
+use Rattle.std.specs.Prelude.{ℕ, ◌&&◌, Bool, true, false, nat_le, List, ◌∷◌, [], codes, Option, Some, None, is_some, option_map, if◌then◌else◌}
 use Rattle.std.specs.List.{list_any}
 use Rattle.int_types.specs.IntType.{IntType}
 use Rattle.soda_words.specs.Names.{behind}

@@ -1,9 +1,11 @@
 ghost use Rattle.std.specs.Prelude.{◌≡◌, List, Option, option_map, find, ℕ};
 ghost use Rattle.std.specs.List.{list_any};
 ghost use Rattle.soda_checks.specs.Conditions.{bad_width, float_type, has_output, is_kind, is_unknown, kind_number, missing, name_twice, site_line, twice, unknown_name};
-ghost use Rattle.soda_checks.specs.Outline.{is_one_of, is_same};
+ghost use Rattle.soda_checks.specs.Names.{names_of};
+ghost use Rattle.soda_checks.specs.Outline.{is_same};
 
-use crate::{Defined, Need, Outline, Setting, SettingKind, Site, is_float, type_of};
+use crate::names::{is_before, is_listed};
+use crate::{Defined, Names, Need, Outline, Setting, SettingKind, Site, is_float, type_of};
 use soda_words::{Word, is_reserved, is_word};
 
 /// Whether two words are written alike.
@@ -11,13 +13,6 @@ pub fn is_same(a: &Word, b: &Word) -> bool
     ensures { result ≡ is_same a.now b.now }
 {
     is_word(a.text.as_slice(), b.text.as_slice())
-}
-
-// Whether a word is written like one of these.
-pub(crate) fn is_one_of(words: &[Word], word: &Word) -> bool
-    ensures { result ≡ is_one_of words.now word.now }
-{
-    words.iter().any(|w| is_same(word, w))
 }
 
 // A number for each setting.
@@ -111,25 +106,29 @@ pub(crate) fn site_line(site: &Site) -> u64
     }
 }
 
-// Whether a name in a formula is none of these.
-fn is_unknown(declared: &[Word], site: &Site) -> bool
-    ensures { result ≡ is_unknown declared.now site.now }
+// Whether a name in a formula is declared nowhere.
+#[tactic(auto, using(crate::proofs::Listed::list_any_map))]
+fn is_unknown(outline: &Outline, names: &Names, site: &Site) -> bool
+    requires { names.now ≡ names_of outline.now }
+    ensures { result ≡ is_unknown outline.now.declared site.now }
 {
+    let _ = outline;
     match site {
         Site::Size(_) => false,
         Site::Left { .. } => false,
-        Site::Cell { name, .. } => !is_one_of(declared, name),
-        Site::Value { name, .. } => !is_one_of(declared, name),
+        Site::Cell { name, .. } => !is_listed(&names.declared, name),
+        Site::Value { name, .. } => !is_listed(&names.declared, name),
     }
 }
 
 /// The line of the first name in a formula that is declared nowhere.
-pub fn unknown_name(outline: &Outline) -> Option<u64>
+pub fn unknown_name(outline: &Outline, names: &Names) -> Option<u64>
+    requires { names.now ≡ names_of outline.now }
     ensures { result ≡ unknown_name outline.now }
 {
     let sites = outline.sites.as_slice();
     for site in sites {
-        if is_unknown(outline.declared.as_slice(), site) {
+        if is_unknown(outline, names, site) {
             return Some(site_line(site));
         }
     }
@@ -150,12 +149,13 @@ pub fn twice(outline: &Outline) -> Option<u64>
 }
 
 /// The line of the first declared name that is reserved or declared before it.
-pub fn name_twice(outline: &Outline) -> Option<u64>
+pub fn name_twice(outline: &Outline, names: &Names) -> Option<u64>
+    requires { names.now ≡ names_of outline.now }
     ensures { result ≡ name_twice outline.now }
 {
     let declared = outline.declared.as_slice();
     for (i, word) in declared.iter().enumerate() {
-        if is_reserved(word.text.as_slice()) || is_one_of(&declared[..i], word) {
+        if is_reserved(word.text.as_slice()) || is_before(declared, &names.declared, i, word) {
             return Some(word.line);
         }
     }

@@ -1,34 +1,24 @@
 ghost use Rattle.std.specs.Prelude.{◌≡◌, option_map, find, slice_get};
-ghost use Rattle.std.specs.List.{list_any};
 ghost use Rattle.std.specs.Option.{option_copied};
+ghost use Rattle.soda_checks.specs.Names.{names_of};
 ghost use Rattle.soda_checks.specs.Outline.{is_same};
 ghost use Rattle.soda_checks.specs.Conditions.{are_below, first_tile, has_wrong_dims, has_wrong_tile, is_same_extent, is_same_tile, is_tensor, is_tile, is_wrong_site, is_wrong_value, param_use, site_line, wrong_dims, wrong_tile};
 
-use crate::conditions::{is_same, site_line};
-use crate::{Defined, Outline, Site};
+use crate::conditions::site_line;
+use crate::names::is_listed;
+use crate::{Names, Outline, Site};
 use soda_syntax::{Extent, InputLine, ParamLine, Size};
 use soda_words::Word;
 use sqlite_items::Items;
 
-// Whether an input has this name.
-fn is_input(inputs: &[InputLine], word: &Word) -> bool
-    ensures { result ≡ list_any (λ i. is_same word.now i.name) inputs.now }
-{
-    inputs.iter().any(|i| is_same(word, &i.name))
-}
-
-// Whether a local or output has this name.
-fn is_defined(defined: &[Defined], word: &Word) -> bool
-    ensures { result ≡ list_any (λ d. is_same word.now d.name) defined.now }
-{
-    defined.iter().any(|d| is_same(word, &d.name))
-}
-
 /// Whether a tensor has this name.
-pub fn is_tensor(outline: &Outline, word: &Word) -> bool
+#[tactic(auto, using(crate::proofs::Listed::list_any_map))]
+pub fn is_tensor(outline: &Outline, names: &Names, word: &Word) -> bool
+    requires { names.now ≡ names_of outline.now }
     ensures { result ≡ is_tensor outline.now word.now }
 {
-    is_input(outline.inputs.as_slice(), word) || is_defined(outline.defined.as_slice(), word)
+    let _ = outline;
+    is_listed(&names.inputs, word) || is_listed(&names.defined, word)
 }
 
 /// The first tile of a text.
@@ -44,24 +34,26 @@ pub fn first_tile(inputs: &[InputLine]) -> Option<&Items<Extent>>
 }
 
 // Whether a left side, or a cell of a tensor, has not so many offsets.
-fn has_wrong_dims(outline: &Outline, dims: usize, site: &Site) -> bool
+fn has_wrong_dims(outline: &Outline, names: &Names, dims: usize, site: &Site) -> bool
+    requires { names.now ≡ names_of outline.now }
     ensures { result ≡ has_wrong_dims outline.now dims site.now }
 {
     match site {
         Site::Size(_) => false,
         Site::Left { offsets, .. } => offsets.len() != dims,
-        Site::Cell { name, offsets } => is_tensor(outline, name) && offsets.len() != dims,
+        Site::Cell { name, offsets } => is_tensor(outline, names, name) && offsets.len() != dims,
         Site::Value { .. } => false,
     }
 }
 
 // The line of the first site that has not so many offsets.
-fn wrong_dims_at(outline: &Outline, dims: usize) -> Option<u64>
+fn wrong_dims_at(outline: &Outline, names: &Names, dims: usize) -> Option<u64>
+    requires { names.now ≡ names_of outline.now }
     ensures { result ≡ option_map site_line (find (has_wrong_dims outline.now dims) outline.now.sites) }
 {
     let sites = outline.sites.as_slice();
     for site in sites {
-        if has_wrong_dims(outline, dims, site) {
+        if has_wrong_dims(outline, names, dims, site) {
             return Some(site_line(site));
         }
     }
@@ -69,11 +61,12 @@ fn wrong_dims_at(outline: &Outline, dims: usize) -> Option<u64>
 }
 
 /// The line of the first left side or cell that has not as many offsets as the first tile has items.
-pub fn wrong_dims(outline: &Outline) -> Option<u64>
+pub fn wrong_dims(outline: &Outline, names: &Names) -> Option<u64>
+    requires { names.now ≡ names_of outline.now }
     ensures { result ≡ wrong_dims outline.now }
 {
     match first_tile(outline.inputs.as_slice()) {
-        Some(tile) => wrong_dims_at(outline, tile.len()),
+        Some(tile) => wrong_dims_at(outline, names, tile.len()),
         None => None,
     }
 }
@@ -183,22 +176,22 @@ pub fn are_below(indexes: &[u64], sizes: &[Size]) -> bool
 }
 
 /// The param of this name.
-pub fn param_of<'a>(params: &'a [ParamLine], word: &Word) -> Option<&'a ParamLine>
-    ensures { option_copied result ≡ find (λ q. is_same word.now q.name) params.now }
+pub fn param_of<'a>(outline: &'a Outline, names: &Names, word: &Word) -> Option<&'a ParamLine>
+    requires { names.now ≡ names_of outline.now }
+    ensures { option_copied result ≡ find (λ q. is_same word.now q.name) outline.now.params }
 {
-    for param in params {
-        if is_same(word, &param.name) {
-            return Some(param);
-        }
+    match names.params.place(word.text.as_slice()) {
+        Some(place) => outline.params.as_slice().get(place),
+        None => None,
     }
-    None
 }
 
 // Whether the name is no param with as many sizes as indexes, each index below its size.
-fn is_wrong_value(params: &[ParamLine], word: &Word, indexes: &[u64]) -> bool
-    ensures { result ≡ is_wrong_value params.now word.now indexes.now }
+fn is_wrong_value(outline: &Outline, names: &Names, word: &Word, indexes: &[u64]) -> bool
+    requires { names.now ≡ names_of outline.now }
+    ensures { result ≡ is_wrong_value outline.now.params word.now indexes.now }
 {
-    match param_of(params, word) {
+    match param_of(outline, names, word) {
         Some(param) => !are_below(indexes, param.sizes.as_slice()),
         None => true,
     }
@@ -206,26 +199,28 @@ fn is_wrong_value(params: &[ParamLine], word: &Word, indexes: &[u64]) -> bool
 
 // Whether it is a size of 0, a name with offsets that is no tensor, or one without that is no param
 // with such indexes.
-fn is_wrong_site(outline: &Outline, site: &Site) -> bool
+fn is_wrong_site(outline: &Outline, names: &Names, site: &Site) -> bool
+    requires { names.now ≡ names_of outline.now }
     ensures { result ≡ is_wrong_site outline.now site.now }
 {
     match site {
         Site::Size(size) => size.value == 0,
         Site::Left { .. } => false,
-        Site::Cell { name, .. } => !is_tensor(outline, name),
+        Site::Cell { name, .. } => !is_tensor(outline, names, name),
         Site::Value { name, indexes } => {
-            is_wrong_value(outline.params.as_slice(), name, indexes.as_slice())
+            is_wrong_value(outline, names, name, indexes.as_slice())
         }
     }
 }
 
 /// The line of the first size of 0, or of the first name in a formula that is used as what it isn't.
-pub fn param_use(outline: &Outline) -> Option<u64>
+pub fn param_use(outline: &Outline, names: &Names) -> Option<u64>
+    requires { names.now ≡ names_of outline.now }
     ensures { result ≡ param_use outline.now }
 {
     let sites = outline.sites.as_slice();
     for site in sites {
-        if is_wrong_site(outline, site) {
+        if is_wrong_site(outline, names, site) {
             return Some(site_line(site));
         }
     }

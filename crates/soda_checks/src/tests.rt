@@ -10,6 +10,7 @@ fn outline(alloc: Global, text: &str) -> Result<Outline, Fail> {
 
 // Every condition that fails, with its line, whether or not another one fails before it.
 fn told(alloc: Global, outline: &Outline) -> Result<String, NoMemory> {
+    let names = make_names(alloc, outline)?;
     let mut text = String::new(alloc);
     if let Some(need) = missing(outline) {
         text.push_str(format!(in alloc; "missing {need:?}; ")?.as_str())?;
@@ -18,11 +19,11 @@ fn told(alloc: Global, outline: &Outline) -> Result<String, NoMemory> {
         ("twice", twice(outline)),
         ("float type", float_type(outline)),
         ("bad type", bad_width(outline)),
-        ("name taken", name_twice(outline)),
-        ("unknown name", unknown_name(outline)),
-        ("wrong number of offsets", wrong_dims(outline)),
+        ("name taken", name_twice(outline, &names)),
+        ("unknown name", unknown_name(outline, &names)),
+        ("wrong number of offsets", wrong_dims(outline, &names)),
         ("tile", wrong_tile(outline)),
-        ("param use", param_use(outline)),
+        ("param use", param_use(outline, &names)),
     ] {
         if let Some(line) = found {
             text.push_str(format!(in alloc; "{condition} {line}; ")?.as_str())?;
@@ -71,15 +72,16 @@ fn conditions_of_texts(rt: HostRuntime) -> Result<(), Fail> {
 // What each declared name is: like how many declared ones, a tensor's, a param's, and the param's sizes
 // above these indexes.
 fn names_told(alloc: Global, outline: &Outline, indexes: &[u64]) -> Result<String, NoMemory> {
+    let names = make_names(alloc, outline)?;
     let mut text = String::new(alloc);
     let declared = outline.declared.as_slice();
     for word in declared {
         let alike = declared.iter().filter(|w| is_same(w, word)).count();
-        let below = match param_of(outline.params.as_slice(), word) {
+        let below = match param_of(outline, &names, word) {
             Some(param) => Some(are_below(indexes, param.sizes.as_slice())),
             None => None,
         };
-        let tensor = is_tensor(outline, word);
+        let tensor = is_tensor(outline, &names, word);
         text.push_str(format!(in alloc; "{alike} {tensor} {below:?}; ")?.as_str())?;
     }
     Ok(text)

@@ -10,7 +10,7 @@ use Rattle.soda_ir.specs.Program.{PlainProgram, extents_at, preserves}
 use Rattle.soda_ir.specs.Arrays.{by_formula}
 use Rattle.soda_ir.proofs.Lists.{ext, get-listed, get-listed-past, length-listed}
 use Rattle.soda_ir.proofs.Reached.{count_below_same, sum_below_same}
-use Rattle.soda_ir.proofs.Rounds.{past_last}
+use Rattle.soda_ir.proofs.Settled.{past_last}
 
 pub wanted_last : (p : PlainProgram) (x : ℕ) → is_wanted p 0 x ≡ is_output p x
 unfolding is_wanted

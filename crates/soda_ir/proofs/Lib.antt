@@ -7,6 +7,7 @@ pub mod Counted
 pub mod Reached
 pub mod Distance
 pub mod Sizes
+pub mod Settled
 pub mod Rounds
 pub mod Lists
 pub mod Steps

@@ -9,8 +9,11 @@ mod locate;
 mod make;
 #[cfg(test)]
 mod make_tests;
+mod order;
 mod params;
 mod placing;
+#[cfg(test)]
+mod placing_tests;
 mod plain;
 mod program;
 mod reads;

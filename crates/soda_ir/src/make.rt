@@ -50,18 +50,18 @@ fn keeps_limits(parts: &Parts) -> bool
     factors & few & tile & values & burst
 }
 
-fn has_good_parts(parts: &Parts) -> bool
-    ensures { IsTrue result ↔ HasGoodParts (plain parts.now) }
+fn has_good_parts(alloc: Global, parts: &Parts) -> Result<bool, NoMemory>
+    ensures { IfOk result (λ good. IsTrue good ↔ HasGoodParts (plain parts.now)) }
 {
     if !has_good_params(parts.params.as_slice()) {
-        return false;
+        return Ok(false);
     }
     let kernel = is_name(parts.kernel.as_slice());
-    let names = are_names_free(parts.params.as_slice(), parts.tensors.as_slice());
+    let names = are_names_free(alloc, parts.params.as_slice(), parts.tensors.as_slice())?;
     let formulas = have_formulas(parts.tensors.as_slice());
     let uses = have_good_uses(parts);
     let small = are_small(parts);
-    kernel & names & formulas & uses & small
+    Ok(kernel & names & formulas & uses & small)
 }
 
 fn has_good_ends(parts: &Parts) -> bool
@@ -89,7 +89,10 @@ fn fits_itself(alloc: Global, parts: &Parts) -> Result<bool, NoMemory>
 fn is_sound(alloc: Global, parts: &Parts) -> Result<bool, NoMemory>
     ensures { IfOk result (λ sound. IsTrue sound ↔ IsSound (plain parts.now)) }
 {
-    if !keeps_limits(parts) || !has_good_parts(parts) || !has_good_ends(parts) {
+    if !keeps_limits(parts) || !has_good_ends(parts) {
+        return Ok(false);
+    }
+    if !has_good_parts(alloc, parts)? {
         return Ok(false);
     }
     if !fits_itself(alloc, parts)? {

@@ -13,6 +13,7 @@ enum Change {
     Border(u8),
     Extents(&'static [u64]),
     Param(&'static str, &'static [u64]),
+    Params(u64, u64),
     InputName(&'static str),
     InputType(u8),
     OutputRole(Role),
@@ -166,7 +167,24 @@ fn tensors(alloc: Global, change: Change) -> Result<Items<Tensor>, Fail> {
     Ok(tensors)
 }
 
+// So many params of one value, named after their numbers modulo another.
+fn many_params(alloc: Global, params: u64, names: u64) -> Result<Items<Param>, Fail> {
+    let mut many = Items::new(alloc);
+    for number in 0..params {
+        let text = format!(in alloc; "p{}", number.checked_rem(names).ok_or("no names")?)?;
+        many.push(Param {
+            name: name(alloc, text.as_str())?,
+            ty: ty(16)?,
+            sizes: Items::new(alloc),
+        })?;
+    }
+    Ok(many)
+}
+
 fn params(alloc: Global, change: Change) -> Result<Items<Param>, Fail> {
+    if let Change::Params(params, names) = change {
+        return many_params(alloc, params, names);
+    }
     let (text, sizes): (&str, &[u64]) = match change {
         Change::Param(text, sizes) => (text, sizes),
         _ => ("c", &[2, 3]),
@@ -278,6 +296,9 @@ fn programs_are_made(rt: HostRuntime) -> Result<(), Fail> {
         (Change::OutputAlone, false),
         (Change::Many(510), true),
         (Change::Many(511), false),
+        (Change::Params(65_536, 65_536), true),
+        (Change::Params(65_536, 65_535), false),
+        (Change::Params(65_537, 65_537), false),
     ] {
         assert_eq!(rt;
             is_made(alloc, parts(alloc, change, 1)?)?,

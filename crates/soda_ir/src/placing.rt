@@ -1,4 +1,4 @@
-ghost use Rattle.std.specs.Prelude.{◌≡◌, ◌<◌, ◌^◌, ◌↔◌, ℕ, true, false, length, slice_index_or, IfOk, IsTrue};
+ghost use Rattle.std.specs.Prelude.{◌≡◌, ◌<◌, ◌^◌, ◌↔◌, ℕ, true, false, length, replicate, slice_index_or, IfOk, IsTrue};
 ghost use Rattle.soda_ir.specs.Arrays.{by_formula, every};
 ghost use Rattle.soda_ir.specs.Counts.{can_be_placed, has_place, tensor_is};
 ghost use Rattle.soda_ir.specs.Points.{listed};
@@ -7,6 +7,7 @@ ghost use Rattle.soda_ir.specs.Tree.{formula_of};
 
 use crate::NoMemory;
 use crate::expr::Expr;
+use crate::order::placing_order;
 use crate::program::Parts;
 use std::alloc::Global;
 
@@ -62,16 +63,48 @@ fn next_round(alloc: Global, parts: &Parts, marks: &[bool]) -> Result<Vec<bool>,
     Ok(next)
 }
 
+// No marks yet of so many tensors.
+fn no_marks(alloc: Global, tensors: usize) -> Result<Vec<bool>, NoMemory>
+    ensures { IfOk result (λ marks. marks.items ≡ replicate tensors false) }
+{
+    vec![in alloc; false; tensors]
+}
+
+// Marks those tensors of an order whose reads are all marked by then.
+fn place_in_order(parts: &Parts, order: &[u32], marks: &mut [bool])
+    requires each { length marks.now ≡ length parts.now.tensors }
+    requires placed { (x : ℕ) → slice_index_or marks.now x false ≡ true → can_be_placed (plain parts.now) x ≡ true }
+    ensures { (x : ℕ) → slice_index_or marks.new x false ≡ true → can_be_placed (plain parts.now) x ≡ true }
+{
+    for tensor in order {
+        let at = *tensor as usize;
+        if at < marks.len() && is_ready(parts, marks, *tensor) {
+            marks[at] = true;
+        }
+    }
+}
+
+// Marks of tensors that can be placed: of all of them, where the order that is proposed is a good one.
+fn placed_in_order(alloc: Global, parts: &Parts) -> Result<Vec<bool>, NoMemory>
+    requires { length parts.now.tensors < 2 ^ 32 }
+    ensures { IfOk result (λ marks. (x : ℕ) → slice_index_or marks.items x false ≡ true → can_be_placed (plain parts.now) x ≡ true) }
+{
+    let order = placing_order(alloc, parts)?;
+    let mut marks = no_marks(alloc, parts.tensors.len())?;
+    place_in_order(parts, &order, &mut marks);
+    Ok(marks)
+}
+
 /// Which tensors can be placed: the inputs, and each local and output whose reads can all be placed. There are fewer than
 /// 2^32 tensors.
 pub fn placed_tensors(alloc: Global, parts: &Parts) -> Result<Vec<bool>, NoMemory>
     requires { length parts.now.tensors < 2 ^ 32 }
     ensures { IfOk result (λ placed. (x : ℕ) → slice_index_or placed.items x false ≡ can_be_placed (plain parts.now) x) }
 {
-    let mut placed = Vec::new(alloc);
+    let mut placed = placed_in_order(alloc, parts)?;
     for round in 0..parts.tensors.len() {
         let next = next_round(alloc, parts, &placed)?;
-        // A round that places nothing more is the last.
+        // A round that places nothing more is the last. It is the first one, where the order was good.
         if next.as_slice() == placed.as_slice() {
             return Ok(next);
         }

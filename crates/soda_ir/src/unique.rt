@@ -1,62 +1,62 @@
-ghost use Rattle.std.specs.Prelude.{◌≡◌, ◌&&◌, ◌++◌, [], not, map};
-ghost use Rattle.std.specs.List.{list_any};
-ghost use Rattle.soda_words.specs.Names.{is_free_name, is_word};
+ghost use Rattle.std.specs.Prelude.{◌≡◌, ◌++◌, [], ◌∷◌, true, map, IfOk, OnOk};
 ghost use Rattle.soda_ir.specs.Program.{plain_param, plain_tensor};
 ghost use Rattle.soda_ir.specs.Valid.{are_free_names, names_of};
 
+use crate::NoMemory;
 use crate::program::{Param, Tensor};
-use soda_words::{is_free_name, is_word};
+use soda_words::{NameTable, is_free_name};
+use std::alloc::Global;
 
-fn is_param(name: &[u8], params: &[Param]) -> bool
-    ensures { result ≡ list_any (λ q. is_word name.now q.name) params.now }
+// Adds a name, and says whether all are still names that params and tensors may have, no two of them the same.
+fn add_name<'a>(table: &mut NameTable<'a>, name: &'a [u8]) -> Result<bool, NoMemory>
+    requires { are_free_names table.now ≡ true }
+    ensures added { OnOk result (table.new ≡ table.old ++ name.now ∷ []) }
+    ensures free { IfOk result (λ free. free ≡ are_free_names (table.old ++ name.now ∷ [])) }
 {
-    params.iter().any(|q| is_word(name, q.name.as_slice()))
+    let is_new = table.add(name)?;
+    Ok(is_free_name(name) && is_new)
 }
 
-fn is_tensor(name: &[u8], tensors: &[Tensor]) -> bool
-    ensures { result ≡ list_any (λ t. is_word name.now t.name) tensors.now }
+// Adds the names of params, as long as all are such names, and says whether they are.
+fn add_params<'a>(table: &mut NameTable<'a>, params: &'a [Param]) -> Result<bool, NoMemory>
+    requires { are_free_names table.now ≡ true }
+    ensures added { IfOk result (λ free. free ≡ true → table.new ≡ table.old ++ map (λ q. q.name) (map plain_param params.now)) }
+    ensures free { IfOk result (λ free. free ≡ are_free_names (table.old ++ map (λ q. q.name) (map plain_param params.now))) }
 {
-    tensors.iter().any(|t| is_word(name, t.name.as_slice()))
-}
-
-fn is_taken(name: &[u8], params: &[Param], tensors: &[Tensor]) -> bool
-    ensures { result ≡ list_any (is_word name.now) (names_of (map plain_param params.now) (map plain_tensor tensors.now)) }
-{
-    let param = is_param(name, params);
-    let tensor = is_tensor(name, tensors);
-    param | tensor
-}
-
-// Whether a param or tensor may have this name beside these.
-fn is_fresh(name: &[u8], params: &[Param], tensors: &[Tensor]) -> bool
-    ensures { result ≡ (is_free_name name.now && not (list_any (is_word name.now) (names_of (map plain_param params.now) (map plain_tensor tensors.now)))) }
-{
-    is_free_name(name) && !is_taken(name, params, tensors)
-}
-
-fn are_tensors_free(tensors: &[Tensor]) -> bool
-    ensures { result ≡ are_free_names (names_of [] (map plain_tensor tensors.now)) }
-{
-    let mut rest = tensors;
-    while let [tensor, more @ ..] = rest {
-        if !is_fresh(tensor.name.as_slice(), &[], more) {
-            return false;
+    for param in params {
+        let free = add_name(table, param.name.as_slice())?;
+        if !free {
+            return Ok(false);
         }
-        rest = more;
     }
-    true
+    Ok(true)
+}
+
+// The same of tensors.
+fn add_tensors<'a>(table: &mut NameTable<'a>, tensors: &'a [Tensor]) -> Result<bool, NoMemory>
+    requires { are_free_names table.now ≡ true }
+    ensures { IfOk result (λ free. free ≡ are_free_names (table.old ++ map (λ t. t.name) (map plain_tensor tensors.now))) }
+{
+    for tensor in tensors {
+        let free = add_name(table, tensor.name.as_slice())?;
+        if !free {
+            return Ok(false);
+        }
+    }
+    Ok(true)
 }
 
 /// Whether each name of a param or tensor is one that they may have, and no two are the same.
-pub(crate) fn are_names_free(params: &[Param], tensors: &[Tensor]) -> bool
-    ensures { result ≡ are_free_names (names_of (map plain_param params.now) (map plain_tensor tensors.now)) }
+pub(crate) fn are_names_free(
+    alloc: Global,
+    params: &[Param],
+    tensors: &[Tensor],
+) -> Result<bool, NoMemory>
+    ensures { IfOk result (λ free. free ≡ are_free_names (names_of (map plain_param params.now) (map plain_tensor tensors.now))) }
 {
-    let mut rest = params;
-    while let [param, more @ ..] = rest {
-        if !is_fresh(param.name.as_slice(), more, tensors) {
-            return false;
-        }
-        rest = more;
+    let mut table = NameTable::new(alloc);
+    if !add_params(&mut table, params)? {
+        return Ok(false);
     }
-    are_tensors_free(tensors)
+    add_tensors(&mut table, tensors)
 }

@@ -17,4 +17,5 @@ pub mod Small
 pub mod FreeNames
 pub mod Texts
 pub mod Link
+pub mod Listed
 pub mod Exclusive

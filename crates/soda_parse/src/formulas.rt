@@ -1,5 +1,6 @@
 ghost use Rattle.std.specs.Prelude.{◌≡◌, ◌<◌, ◌≤◌, ◌+◌, ◌^◌, ◌-ℤ◌, ◌&&◌, pos, true, false, nat_le, length, position, find, slice_index_or, unsigned_abs, IfOk, MatchOption};
 ghost use Rattle.std.specs.Option.{option_copied};
+ghost use Rattle.soda_checks.specs.Names.{names_of};
 ghost use Rattle.soda_checks.specs.Outline.{is_same};
 ghost use Rattle.soda_formula.specs.Tree.{term_of};
 ghost use Rattle.soda_ir.specs.Tree.{formula_of as formula};
@@ -8,10 +9,10 @@ ghost use Rattle.soda_parse.specs.Meaning.{cell_formula, formula_of, int_type, o
 use crate::NoMemory;
 use arrayvec::ArrayVec;
 use int_types::{Ty, int32};
-use soda_checks::{Defined, Outline, are_below, is_same, param_of, type_of};
+use soda_checks::{Names, Outline, are_below, param_of, type_of};
 use soda_formula::Written;
 use soda_ir::{Expr, Offset};
-use soda_syntax::{InputLine, ParamLine, Size};
+use soda_syntax::Size;
 use soda_words::Word;
 use sqlite_items::Boxed;
 use std::alloc::Global;
@@ -27,35 +28,45 @@ pub(crate) fn int_type(word: &Word) -> Ty
 }
 
 // The place of the input of this name.
-fn input_place(inputs: &[InputLine], word: &Word) -> Option<usize>
-    ensures { result ≡ position (λ i. is_same word.now i.name) inputs.now }
+#[tactic(auto, using(crate::proofs::Listed::listed))]
+fn input_place(outline: &Outline, names: &Names, word: &Word) -> Option<usize>
+    requires { names.now ≡ names_of outline.now }
+    ensures { result ≡ position (λ i. is_same word.now i.name) outline.now.inputs }
 {
-    inputs.iter().position(|i| is_same(word, &i.name))
+    let _ = outline;
+    names.inputs.place(word.text.as_slice())
 }
 
 // The place of the local or output of this name.
-fn defined_place(defined: &[Defined], word: &Word) -> Option<usize>
-    ensures { result ≡ position (λ d. is_same word.now d.name) defined.now }
+#[tactic(auto, using(crate::proofs::Listed::listed))]
+fn defined_place(outline: &Outline, names: &Names, word: &Word) -> Option<usize>
+    requires { names.now ≡ names_of outline.now }
+    ensures { result ≡ position (λ d. is_same word.now d.name) outline.now.defined }
 {
-    defined.iter().position(|d| is_same(word, &d.name))
+    let _ = outline;
+    names.defined.place(word.text.as_slice())
 }
 
 // The place of the param of this name.
-fn param_place(params: &[ParamLine], word: &Word) -> Option<usize>
-    ensures { result ≡ position (λ q. is_same word.now q.name) params.now }
+#[tactic(auto, using(crate::proofs::Listed::listed))]
+fn param_place(outline: &Outline, names: &Names, word: &Word) -> Option<usize>
+    requires { names.now ≡ names_of outline.now }
+    ensures { result ≡ position (λ q. is_same word.now q.name) outline.now.params }
 {
-    params.iter().position(|q| is_same(word, &q.name))
+    let _ = outline;
+    names.params.place(word.text.as_slice())
 }
 
 // The number of the tensor of this name.
-fn tensor_number(outline: &Outline, word: &Word) -> Option<u32>
-    requires { length outline.now.inputs + length outline.now.defined < 2 ^ 32 }
+fn tensor_number(outline: &Outline, names: &Names, word: &Word) -> Option<u32>
+    requires names { names.now ≡ names_of outline.now }
+    requires few { length outline.now.inputs + length outline.now.defined < 2 ^ 32 }
     ensures { result ≡ tensor_number outline.now word.now }
 {
-    if let Some(place) = input_place(outline.inputs.as_slice(), word) {
+    if let Some(place) = input_place(outline, names, word) {
         return Some(place as u32);
     }
-    match defined_place(outline.defined.as_slice(), word) {
+    match defined_place(outline, names, word) {
         Some(place) => Some((outline.inputs.len() + place) as u32),
         None => None,
     }
@@ -140,12 +151,13 @@ fn place_of(sizes: &[Size], indexes: &[u64]) -> u32
 
 // The value of a param, and 0 where there is none.
 #[tactic(auto, using(crate::proofs::Levels::levels))]
-fn value(params: &[ParamLine], word: &Word, indexes: &[u64]) -> Expr
-    requires { length params.now < 2 ^ 32 }
-    ensures { formula result ≡ named_value params.now word.now indexes.now }
+fn value(outline: &Outline, names: &Names, word: &Word, indexes: &[u64]) -> Expr
+    requires names { names.now ≡ names_of outline.now }
+    requires few { length outline.now.params < 2 ^ 32 }
+    ensures { formula result ≡ named_value outline.now.params word.now indexes.now }
 {
-    match param_place(params, word) {
-        Some(place) => match param_of(params, word) {
+    match param_place(outline, names, word) {
+        Some(place) => match param_of(outline, names, word) {
             Some(param) => Expr::Par {
                 param: place as u32,
                 place: place_of(param.sizes.as_slice(), indexes),
@@ -161,9 +173,11 @@ fn value(params: &[ParamLine], word: &Word, indexes: &[u64]) -> Expr
 pub(crate) fn make_formula(
     alloc: Global,
     outline: &Outline,
+    names: &Names,
     left: &[i128],
     written: &Written,
 ) -> Result<Expr, NoMemory>
+    requires names { names.now ≡ names_of outline.now }
     requires tensors { length outline.now.inputs + length outline.now.defined < 2 ^ 32 }
     requires params { length outline.now.params < 2 ^ 32 }
     ensures { IfOk result (λ found. formula found ≡ formula_of outline.now left.now (term_of written.now)) }
@@ -171,30 +185,30 @@ pub(crate) fn make_formula(
     match written {
         Written::Number(n) => Ok(Expr::Num(*n)),
         Written::Cell { tensor, offsets } => Ok(cell(
-            tensor_number(outline, tensor),
+            tensor_number(outline, names, tensor),
             offset_or_none(offsets.as_slice(), left),
         )),
         Written::Value { param, indexes } => {
-            Ok(value(outline.params.as_slice(), param, indexes.as_slice()))
+            Ok(value(outline, names, param, indexes.as_slice()))
         }
         Written::Unary(op, a) => {
-            let a = make_formula(alloc, outline, left, a.get())?;
+            let a = make_formula(alloc, outline, names, left, a.get())?;
             Ok(Expr::Un(*op, Boxed::new(alloc, a)?))
         }
         Written::Binary(op, a, b) => {
-            let a = make_formula(alloc, outline, left, a.get())?;
-            let b = make_formula(alloc, outline, left, b.get())?;
+            let a = make_formula(alloc, outline, names, left, a.get())?;
+            let b = make_formula(alloc, outline, names, left, b.get())?;
             Ok(Expr::Bin(*op, Boxed::new(alloc, a)?, Boxed::new(alloc, b)?))
         }
         Written::Choice(c, a, b) => {
-            let c = make_formula(alloc, outline, left, c.get())?;
-            let a = make_formula(alloc, outline, left, a.get())?;
-            let b = make_formula(alloc, outline, left, b.get())?;
+            let c = make_formula(alloc, outline, names, left, c.get())?;
+            let a = make_formula(alloc, outline, names, left, a.get())?;
+            let b = make_formula(alloc, outline, names, left, b.get())?;
             let c = Boxed::new(alloc, c)?;
             Ok(Expr::Select(c, Boxed::new(alloc, a)?, Boxed::new(alloc, b)?))
         }
         Written::Cast(word, a) => {
-            let a = make_formula(alloc, outline, left, a.get())?;
+            let a = make_formula(alloc, outline, names, left, a.get())?;
             Ok(Expr::Cast(int_type(word), Boxed::new(alloc, a)?))
         }
     }

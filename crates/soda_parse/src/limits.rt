@@ -5,11 +5,12 @@ ghost use Rattle.soda_ir.specs.Valid.{fills_burst};
 ghost use Rattle.soda_ir.specs.Points.{size};
 ghost use Rattle.soda_ir.specs.Program.{plain, plain_param, preserves};
 ghost use Rattle.soda_parse.specs.Limits.{bad_burst, has_good_burst, circular, circular_from, first_past, iterate_mismatch, offset_past, outputs_fit, param_products, partial_products, values_past, preserve_mismatch, left_behind, site_magnitudes, unless_within};
+ghost use Rattle.soda_checks.specs.Names.{names_of};
 ghost use Rattle.soda_parse.specs.Meaning.{shifted};
 
 use crate::NoMemory;
 use crate::formulas::component;
-use soda_checks::{Defined, Outline, Site, is_tensor};
+use soda_checks::{Defined, Names, Outline, Site, is_tensor};
 use soda_ir::{Border, Param, Parts, fill_burst, placed_tensors};
 use std::alloc::Global;
 
@@ -138,14 +139,15 @@ fn far_component(offsets: &[i128], left: &[i128]) -> Option<u128>
 }
 
 // The same of a cell of a tensor, and None for another name.
-fn far_cell(outline: &Outline, site: &Site, left: &[i128]) -> Option<u128>
+fn far_cell(outline: &Outline, names: &Names, site: &Site, left: &[i128]) -> Option<u128>
+    requires { names.now ≡ names_of outline.now }
     ensures { result ≡ first_past 32768 (site_magnitudes outline.now left.now site.now) }
 {
     match site {
         Site::Size(_) => None,
         Site::Left { .. } => None,
         Site::Cell { name, offsets } => {
-            if is_tensor(outline, name) {
+            if is_tensor(outline, names, name) {
                 far_component(offsets.as_slice(), left)
             } else {
                 None
@@ -168,13 +170,14 @@ fn left_at<'a>(site: &'a Site, left: &'a [i128]) -> &'a [i128]
 }
 
 /// The first magnitude of a component of a cell's offset, the left side subtracted, that is too great.
-pub(crate) fn offset_past(outline: &Outline) -> Option<u128>
+pub(crate) fn offset_past(outline: &Outline, names: &Names) -> Option<u128>
+    requires { names.now ≡ names_of outline.now }
     ensures { result ≡ offset_past outline.now }
 {
     let sites = outline.sites.as_slice();
     let mut left: &[i128] = &[];
     for site in sites {
-        if let Some(magnitude) = far_cell(outline, site, left) {
+        if let Some(magnitude) = far_cell(outline, names, site, left) {
             return Some(magnitude);
         }
         left = left_at(site, left);

@@ -1,13 +1,14 @@
 ghost use Rattle.std.specs.Prelude.{◌≡◌, ◌<◌, ◌+◌, ◌^◌, ◌++◌, [], ◌∷◌, false, length, map, flat_map, unwrap_or, option_map, IfOk, OnOk, Option, List, ℕ};
 ghost use Rattle.std.specs.Option.{option_copied};
 ghost use Rattle.soda_checks.specs.Conditions.{first_by};
+ghost use Rattle.soda_checks.specs.Names.{names_of};
 ghost use Rattle.soda_ir.specs.Program.{plain, plain_param, plain_tensor};
 ghost use Rattle.soda_parse.specs.Meaning.{border_of, first_or, fixed_in, input_of, kernel_in, param_of, program_by, tensor_of, tensors_in, tile_items};
 ghost use Rattle.soda_syntax.specs.Statements.{plain_line, plain_statement};
 
 use crate::NoMemory;
 use crate::formulas::{int_type, make_formula};
-use soda_checks::{Outline, first_tile};
+use soda_checks::{Names, Outline, first_tile};
 use soda_ir::{Border, Param, Parts, Role, Tensor};
 use soda_syntax::{Extent, FormulaLine, InputLine, ParamLine, Size, Statement};
 use soda_words::Word;
@@ -59,14 +60,16 @@ fn make_input(alloc: Global, line: &InputLine) -> Result<Tensor, NoMemory>
 fn make_tensor(
     alloc: Global,
     outline: &Outline,
+    names: &Names,
     role: Role,
     line: &FormulaLine,
 ) -> Result<Tensor, NoMemory>
+    requires names { names.now ≡ names_of outline.now }
     requires tensors { length outline.now.inputs + length outline.now.defined < 2 ^ 32 }
     requires params { length outline.now.params < 2 ^ 32 }
     ensures { IfOk result (λ tensor. plain_tensor tensor ≡ tensor_of outline.now role (plain_line line.now)) }
 {
-    let formula = make_formula(alloc, outline, line.left.as_slice(), &line.formula)?;
+    let formula = make_formula(alloc, outline, names, line.left.as_slice(), &line.formula)?;
     Ok(Tensor {
         name: text_of(alloc, &line.name)?,
         ty: int_type(&line.ty),
@@ -104,20 +107,22 @@ fn add_inputs(
 fn add_tensor(
     alloc: Global,
     outline: &Outline,
+    names: &Names,
     statement: &Statement,
     tensors: &mut Items<Tensor>,
 ) -> Result<(), NoMemory>
+    requires names { names.now ≡ names_of outline.now }
     requires tensors { length outline.now.inputs + length outline.now.defined < 2 ^ 32 }
     requires params { length outline.now.params < 2 ^ 32 }
     ensures { OnOk result (map plain_tensor tensors.new ≡ map plain_tensor tensors.old ++ tensors_in outline.now (plain_statement statement.now)) }
 {
     match statement {
         Statement::Local(line) => {
-            tensors.push(make_tensor(alloc, outline, Role::Local, line)?)?;
+            tensors.push(make_tensor(alloc, outline, names, Role::Local, line)?)?;
             Ok(())
         }
         Statement::Output(line) => {
-            tensors.push(make_tensor(alloc, outline, Role::Output, line)?)?;
+            tensors.push(make_tensor(alloc, outline, names, Role::Output, line)?)?;
             Ok(())
         }
         Statement::Kernel { .. } => Ok(()),
@@ -135,15 +140,17 @@ fn add_tensor(
 fn add_tensors(
     alloc: Global,
     outline: &Outline,
+    names: &Names,
     statements: &[Statement],
     tensors: &mut Items<Tensor>,
 ) -> Result<(), NoMemory>
+    requires names { names.now ≡ names_of outline.now }
     requires tensors { length outline.now.inputs + length outline.now.defined < 2 ^ 32 }
     requires params { length outline.now.params < 2 ^ 32 }
     ensures { OnOk result (map plain_tensor tensors.new ≡ map plain_tensor tensors.old ++ flat_map (tensors_in outline.now) (map plain_statement statements.now)) }
 {
     for statement in statements {
-        add_tensor(alloc, outline, statement, tensors)?;
+        add_tensor(alloc, outline, names, statement, tensors)?;
     }
     Ok(())
 }
@@ -223,15 +230,17 @@ fn border_of(preserves: &[bool]) -> Border
 pub(crate) fn make_parts(
     alloc: Global,
     outline: &Outline,
+    names: &Names,
     statements: &[Statement],
 ) -> Result<Parts, NoMemory>
+    requires names { names.now ≡ names_of outline.now }
     requires tensors { length outline.now.inputs + length outline.now.defined < 2 ^ 32 }
     requires params { length outline.now.params < 2 ^ 32 }
     ensures { IfOk result (λ parts. plain parts ≡ program_by outline.now (map plain_statement statements.now)) }
 {
     let mut tensors = Items::new(alloc);
     add_inputs(alloc, outline.inputs.as_slice(), &mut tensors)?;
-    add_tensors(alloc, outline, statements, &mut tensors)?;
+    add_tensors(alloc, outline, names, statements, &mut tensors)?;
     Ok(Parts {
         kernel: make_kernel(alloc, statements)?,
         burst: first_or(outline.bursts.as_slice(), 0),

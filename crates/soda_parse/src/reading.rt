@@ -13,7 +13,7 @@ ghost use Rattle.soda_words.specs.Tokens.{not_ascii, tokens_of};
 use crate::program::make_parts;
 use crate::refusing::refusal_by;
 use crate::{NoMemory, Refusal};
-use soda_checks::make_outline;
+use soda_checks::{make_names, make_outline};
 use soda_ir::{MakeRefusal, Parts, Program};
 use soda_syntax::{Statement, SyntaxFail, read_statements};
 use soda_words::not_ascii;
@@ -54,8 +54,9 @@ fn judge(alloc: Global, text: &[u8], statements: &[Statement]) -> Result<Judged,
 {
     let _ = text;
     let outline = make_outline(alloc, statements)?;
-    let parts = make_parts(alloc, &outline, statements)?;
-    let refusal = refusal_by(alloc, &outline, &parts)?;
+    let names = make_names(alloc, &outline)?;
+    let parts = make_parts(alloc, &outline, &names, statements)?;
+    let refusal = refusal_by(alloc, &outline, &names, &parts)?;
     Ok(Judged { parts, refusal })
 }
 

@@ -1,4 +1,5 @@
 ghost use Rattle.std.specs.Prelude.{◌≡◌, ◌<◌, ◌+◌, ◌^◌, None, length, IfOk};
+ghost use Rattle.soda_checks.specs.Names.{names_of};
 ghost use Rattle.soda_ir.specs.Counts.{IsCountable};
 ghost use Rattle.soda_ir.specs.Program.{plain};
 ghost use Rattle.soda_parse.specs.Meaning.{tile_items};
@@ -10,7 +11,7 @@ use crate::limits::{
 };
 use crate::{NoMemory, Refusal};
 use soda_checks::{
-    Outline, bad_width, first_tile, float_type, missing, name_twice, param_use, twice,
+    Names, Outline, bad_width, first_tile, float_type, missing, name_twice, param_use, twice,
     unknown_name, wrong_dims, wrong_tile,
 };
 use soda_ir::{LimitKind, Parts, live_count, read_count};
@@ -18,7 +19,8 @@ use std::alloc::Global;
 
 /// Why names and types are refused, if they are.
 #[tactic(auto, unfolding(crate::specs::Text::names_refusal))]
-pub(crate) fn names_refusal(outline: &Outline) -> Option<Refusal>
+pub(crate) fn names_refusal(outline: &Outline, names: &Names) -> Option<Refusal>
+    requires { names.now ≡ names_of outline.now }
     ensures { result ≡ names_refusal outline.now }
 {
     if let Some(need) = missing(outline) {
@@ -33,13 +35,13 @@ pub(crate) fn names_refusal(outline: &Outline) -> Option<Refusal>
     if let Some(line) = bad_width(outline) {
         return Some(Refusal::BadWidth(line));
     }
-    if let Some(line) = name_twice(outline) {
+    if let Some(line) = name_twice(outline, names) {
         return Some(Refusal::NameTwice(line));
     }
-    if let Some(line) = unknown_name(outline) {
+    if let Some(line) = unknown_name(outline, names) {
         return Some(Refusal::UnknownName(line));
     }
-    match wrong_dims(outline) {
+    match wrong_dims(outline, names) {
         Some(line) => Some(Refusal::WrongDims(line)),
         None => None,
     }
@@ -101,7 +103,8 @@ fn dims(outline: &Outline) -> usize
 
 /// The first limit on sizes that is passed, if one is.
 #[tactic(auto, unfolding(crate::specs::Text::size_refusal))]
-pub(crate) fn size_refusal(outline: &Outline, parts: &Parts) -> Option<Refusal>
+pub(crate) fn size_refusal(outline: &Outline, names: &Names, parts: &Parts) -> Option<Refusal>
+    requires { names.now ≡ names_of outline.now }
     ensures { result ≡ size_refusal outline.now (plain parts.now) }
 {
     if let Some(n) = unless_within(1, 64, parts.unroll as u128) {
@@ -116,7 +119,7 @@ pub(crate) fn size_refusal(outline: &Outline, parts: &Parts) -> Option<Refusal>
     if let Some(n) = tile_past(parts.extents.as_slice()) {
         return Some(Refusal::Limit(LimitKind::Tile, n));
     }
-    if let Some(n) = offset_past(outline) {
+    if let Some(n) = offset_past(outline, names) {
         return Some(Refusal::Limit(LimitKind::Offset, n));
     }
     if let Some(n) = unless_within(0, 512, parts.tensors.len() as u128) {
@@ -147,13 +150,14 @@ pub(crate) fn count_refusal(alloc: Global, parts: &Parts) -> Result<Option<Refus
 
 /// Why the burst width or the use of a param is refused, if one is.
 #[tactic(auto, unfolding(crate::specs::Text::use_refusal))]
-pub(crate) fn use_refusal(outline: &Outline, parts: &Parts) -> Option<Refusal>
+pub(crate) fn use_refusal(outline: &Outline, names: &Names, parts: &Parts) -> Option<Refusal>
+    requires { names.now ≡ names_of outline.now }
     ensures { result ≡ use_refusal outline.now (plain parts.now) }
 {
     if let Some(n) = bad_burst(parts) {
         return Some(Refusal::BurstWidth(n));
     }
-    match param_use(outline) {
+    match param_use(outline, names) {
         Some(line) => Some(Refusal::ParamUse(line)),
         None => None,
     }
@@ -164,18 +168,20 @@ pub(crate) fn use_refusal(outline: &Outline, parts: &Parts) -> Option<Refusal>
 fn late_refusal(
     alloc: Global,
     outline: &Outline,
+    names: &Names,
     parts: &Parts,
 ) -> Result<Option<Refusal>, NoMemory>
+    requires names { names.now ≡ names_of outline.now }
     requires countable { size_refusal outline.now (plain parts.now) ≡ None → IsCountable (plain parts.now) }
     ensures { IfOk result (λ refusal. refusal ≡ late_refusal outline.now (plain parts.now)) }
 {
-    if let Some(refusal) = size_refusal(outline, parts) {
+    if let Some(refusal) = size_refusal(outline, names, parts) {
         return Ok(Some(refusal));
     }
     if let Some(refusal) = count_refusal(alloc, parts)? {
         return Ok(Some(refusal));
     }
-    Ok(use_refusal(outline, parts))
+    Ok(use_refusal(outline, names, parts))
 }
 
 /// Why statements of this outline and these parts are refused, if they are: the first of the
@@ -184,18 +190,20 @@ fn late_refusal(
 pub(crate) fn refusal_by(
     alloc: Global,
     outline: &Outline,
+    names: &Names,
     parts: &Parts,
 ) -> Result<Option<Refusal>, NoMemory>
+    requires names { names.now ≡ names_of outline.now }
     requires tensors { length parts.now.tensors < 2 ^ 32 }
     requires few { length outline.now.inputs + length outline.now.defined < 2 ^ 32 }
     requires countable { names_refusal outline.now ≡ None → shape_refusal outline.now (plain parts.now) ≡ None → size_refusal outline.now (plain parts.now) ≡ None → IsCountable (plain parts.now) }
     ensures { IfOk result (λ refusal. refusal ≡ refusal_by outline.now (plain parts.now)) }
 {
-    if let Some(refusal) = names_refusal(outline) {
+    if let Some(refusal) = names_refusal(outline, names) {
         return Ok(Some(refusal));
     }
     if let Some(refusal) = shape_refusal(alloc, outline, parts)? {
         return Ok(Some(refusal));
     }
-    late_refusal(alloc, outline, parts)
+    late_refusal(alloc, outline, names, parts)
 }

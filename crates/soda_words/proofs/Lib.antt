@@ -1,3 +1,4 @@
 mod Examples
 pub mod Skips
 pub mod Fronts
+pub mod Tables

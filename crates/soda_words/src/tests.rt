@@ -77,3 +77,31 @@ fn lines(rt: HostRuntime) -> Result<(), Fail> {
     assert_eq!(rt; number(b"07"), None);
     Ok(())
 }
+
+#[test]
+fn first_places(rt: HostRuntime) -> Result<(), Fail> {
+    let mut table = NameTable::new(rt.alloc());
+    assert_eq!(rt; table.place(b"a"), None);
+    for (name, is_new) in [
+        ("a", true),
+        ("b", true),
+        ("a", false),
+        ("ab", true),
+        ("b", false),
+        ("", true),
+    ] {
+        assert_eq!(rt; table.add(name.as_bytes())?, is_new, "{name}");
+    }
+    assert_eq!(rt; table.len(), 6);
+    for (name, place) in [
+        ("a", Some(0)),
+        ("b", Some(1)),
+        ("ab", Some(3)),
+        ("", Some(5)),
+        ("ba", None),
+        ("abc", None),
+    ] {
+        assert_eq!(rt; table.place(name.as_bytes()), place, "{name}");
+    }
+    Ok(())
+}

@@ -1,4 +1,4 @@
-use Rattle.std.proofs.Common.{sym, ◌∙◌, ◌≡◌}
+use Rattle.std.proofs.Common.{sym, ◌∙◌}
 use Rattle.soda_checks.proofs.Tiles.{shorter}
 use Rattle.soda_checks.proofs.places.is_same_tile.Goals as goal
 

@@ -1,4 +1,4 @@
-use Rattle.std.proofs.Common.{ap, ◌∙◌, ◌≡◌, ℕ, Some}
+use Rattle.std.proofs.Common.{ap, ◌∙◌, ℕ}
 use Rattle.std.specs.Prelude.{find, option_map}
 use Rattle.soda_checks.specs.Conditions.{first_tile, has_wrong_dims, site_line, wrong_dims_beside}
 use Rattle.soda_checks.proofs.places.wrong_dims.Goals as goal

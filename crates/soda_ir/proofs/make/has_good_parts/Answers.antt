@@ -14,10 +14,10 @@ returns-then-not-has_good_params c =
 
 pub returns : goal.returns
 returns c =
-    parts c.args.parts.now c.is_name-kernel.result c.are_names_free-names.result c.have_formulas-formulas.result c.have_good_uses-uses.result c.are_small-small.result
+    parts c.args.parts.now c.is_name-kernel.result c.in_ok-names.names c.have_formulas-formulas.result c.have_good_uses-uses.result c.are_small-small.result
     (sym (c.has_good_params.ensures ∙ ap (λ qs. list_all (λ q. is_good_param (plain_param q)) qs) c.as_slice.ensures) ∙ c.if-not-has_good_params.false)
     (c.is_name-kernel.ensures ∙ ap is_name c.as_slice-2.ensures)
-    (c.are_names_free-names.ensures ∙ ap (λ qs. are_free_names (names_of (map plain_param qs) (map plain_tensor c.as_slice-4.result.now))) c.as_slice-3.ensures ∙ ap (λ ts. are_free_names (names_of (map plain_param c.args.parts.now.params) (map plain_tensor ts))) c.as_slice-4.ensures)
+    (c.in_ok-names.ensures ∙ ap (λ qs. are_free_names (names_of (map plain_param qs) (map plain_tensor c.as_slice-4.result.now))) c.as_slice-3.ensures ∙ ap (λ ts. are_free_names (names_of (map plain_param c.args.parts.now.params) (map plain_tensor ts))) c.as_slice-4.ensures)
     (c.have_formulas-formulas.ensures ∙ ap (λ ts. list_all (λ t. has_formula_if_no_input (plain_tensor t)) ts) c.as_slice-5.ensures)
     c.have_good_uses-uses.ensures
     c.are_small-small.ensures
