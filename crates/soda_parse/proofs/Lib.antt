@@ -18,3 +18,12 @@ pub mod FreeNames
 pub mod Texts
 pub mod Link
 pub mod Exclusive
+pub mod Statements
+pub mod Lookups
+pub mod Back
+pub mod ReadBack
+pub mod TypeWords
+pub mod ReadProgram
+pub mod FineSites
+pub mod FineNames
+pub mod FineProgram

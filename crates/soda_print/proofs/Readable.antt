@@ -39,7 +39,7 @@ nonzero n = not (n == 0)
 some : (n : ℕ) → nonzero n ≡ true → 1 ≤ n
 some n h = grind (arith, nat_tests)
 
-positive : (ns : List ℕ) → list_all nonzero ns ≡ true → 1 ≤ size ns
+pub positive : (ns : List ℕ) → list_all nonzero ns ≡ true → 1 ≤ size ns
 positive [] h = omega arith
 positive (n ∷ ns) h =
     let one : 1 ≤ n = some n (first (nonzero n) (list_all nonzero ns) h) in
@@ -155,7 +155,7 @@ writable p (cast t a) qs ts u s small = (type_named t s.0, writable p a qs ts u 
 count_cons : (q : PlainParam) (qs : List PlainParam) → value_count (q ∷ qs) ≡ size q.sizes + value_count qs
 count_cons q qs = sum_by-cons (λ (r : PlainParam). size r.sizes) q qs
 
-count_there : (qs : List PlainParam) (k : ℕ) (q : PlainParam) → slice_get qs k ≡ Some q → size q.sizes ≤ value_count qs
+pub count_there : (qs : List PlainParam) (k : ℕ) (q : PlainParam) → slice_get qs k ≡ Some q → size q.sizes ≤ value_count qs
 count_there [] k q e = cc
 count_there (r ∷ qs) zero q e =
     let same : size r.sizes ≡ size q.sizes = ap (λ (s : PlainParam). size s.sizes) (unwrapped r q e) in

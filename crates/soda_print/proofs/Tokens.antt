@@ -175,7 +175,7 @@ one_zero : (n : ℕ) → n < 2 ^ 64 → (not (begins_with_zero (decimal n)) || l
 one_zero zero h = ap (λ (ds : List ℕ). not (begins_with_zero ds) || length ds == 1) (decimal_digit 0 (omega arith))
 one_zero (suc n) h = no_zero_first (decimal (suc n)) (first_decimal (suc n) (omega arith) h)
 
-number_is : (n : ℕ) → n < 2 ^ 64 → is_number (decimal n) ≡ true
+pub number_is : (n : ℕ) → n < 2 ^ 64 → is_number (decimal n) ≡ true
 number_is n h =
     both (is_some_digits (decimal n) && (not (begins_with_zero (decimal n)) || length (decimal n) == 1)) (nat_lt (value_behind 0 (decimal n)) (2 ^ 64))
     (both (is_some_digits (decimal n)) (not (begins_with_zero (decimal n)) || length (decimal n) == 1) (some_digits (decimal n) (digits_decimal own n h) (decimal_nonempty n h)) (one_zero n h))
