@@ -27,3 +27,5 @@ pub mod ReadProgram
 pub mod FineSites
 pub mod FineNames
 pub mod FineProgram
+pub mod WrittenFormulas
+pub mod WrittenLines
