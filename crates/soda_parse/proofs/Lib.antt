@@ -28,4 +28,5 @@ pub mod FineSites
 pub mod FineNames
 pub mod FineProgram
 pub mod WrittenFormulas
+pub mod SmallFormulas
 pub mod WrittenLines

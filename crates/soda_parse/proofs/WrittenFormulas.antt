@@ -143,7 +143,7 @@ components : (line : ℕ) (ds : List ℤ) → AreItems IsComponent line (map com
 components line [] = tt
 components line (d ∷ ds) = (component line d, components line ds)
 
-offsets : (line : ℕ) (ds : List ℤ) (n : ℕ) → length ds ≡ suc n → AreOffsets (on line (listed_tokens (map component_tokens ds))) ds
+pub offsets : (line : ℕ) (ds : List ℤ) (n : ℕ) → length ds ≡ suc n → AreOffsets (on line (listed_tokens (map component_tokens ds))) ds
 offsets line [] n e = absurd (omega arith)
 offsets line (d ∷ ds) n e = in_round IsComponent line (component_tokens d) (map component_tokens ds) d ds (component line d) (components line ds)
 
@@ -165,7 +165,7 @@ cast_by true n e = rw e refl
 cast_by false n e = rw e refl
 
 -- the word of a type is a cast word
-cast_word : (t : IntType) → IsType t → is_cast_word (type_text t) ≡ true
+pub cast_word : (t : IntType) → IsType t → is_cast_word (type_text t) ≡ true
 unfolding type_text
 cast_word t h =
     let small : t.bits < 2 ^ 64 = omega (arith, h.most) in

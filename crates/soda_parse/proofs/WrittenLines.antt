@@ -1,5 +1,5 @@
 -- The lines of the canonical text are the statements of the program.
-use Rattle.std.proofs.Common.{◌≡◌, ℕ, zero, suc, ◌<◌, ◌≤◌, ◌&&◌, Bool, true, false, not, nat_le, List, [], ◌∷◌, ◌++◌, length, map, Some, None, Option, refl, sym, ap, ◌∙◌, arith, append_assoc, codes, subst, ℤ, pos}
+use Rattle.std.proofs.Common.{◌≡◌, ℕ, zero, suc, ◌<◌, ◌≤◌, ◌&&◌, Bool, true, false, not, nat_le, inl, inr, List, [], ◌∷◌, ◌++◌, length, map, Some, None, Option, refl, sym, ap, ◌∙◌, arith, append_assoc, codes, subst, ℤ, pos}
 use Rattle.std.specs.Prelude.{slice_get, if◌then◌else◌}
 use Rattle.std.specs.Fmt.{decimal}
 use Rattle.std.specs.List.{list_all}
@@ -9,7 +9,8 @@ use Rattle.soda_formula.specs.Grammar.{symbol_on, name_on, number_on, word_on, I
 use Rattle.soda_ir.specs.Formula.{Formula}
 use Rattle.soda_ir.specs.Program.{PlainParam, PlainProgram, PlainTensor, preserves}
 use Rattle.soda_ir.specs.Uses.{each_use, is_good_cell, is_good_place}
-use Rattle.soda_ir.specs.Valid.{IsValid, has_good_uses, is_good_param, names_of}
+use Rattle.soda_ir.specs.Written.{most_open, token_count}
+use Rattle.soda_ir.specs.Valid.{IsValid, has_good_uses, is_good_param, is_small, names_of}
 use Rattle.soda_ir.specs.declared.program.Border.{Border}
 use Rattle.soda_ir.specs.declared.program.Border.TheVariants.{Ignore, Preserve}
 use Rattle.soda_print.specs.Canonical.{border_word, role_word, tensor_name, type_text}
@@ -17,7 +18,9 @@ use Rattle.soda_print.specs.Sized.{AreSizedTensors, IsSized, IsSizedProgram}
 use Rattle.soda_print.proofs.Read.{canonical_tokens, head_tokens, left_tokens, param_tokens, placed_lines, setting_tokens, tensor_tokens, tile_tokens}
 use Rattle.soda_print.proofs.Tokens.{on_line}
 use Rattle.soda_print.proofs.Tokenized.{formula_tokens, index_tokens, listed_tokens}
-use Rattle.soda_syntax.specs.Grammar.{IsExtent, a_number, a_star, AreSizes, no_size, size_before, no_bank, MayBeType, IsTile, a_tile, IsLeftSide, IsLocalHead, IsOutputHead, IsStatement, a_kernel, a_burst_width, an_unroll_factor, an_iterate, ignored_border, preserved_border, a_param, an_input as an_input_line, a_local as a_local_line, an_output as an_output_line, AreStatements, no_statement, statement_before}
+use Rattle.soda_syntax.specs.Grammar.{IsExtent, a_number, a_star, AreSizes, no_size, size_before, no_bank, MayBeType, IsTile, a_tile, IsLeftSide, IsLocalHead, IsOutputHead, IsStatement, a_kernel, a_burst_width, an_unroll_factor, an_iterate, ignored_border, preserved_border, a_param, an_input as an_input_line, a_local as a_local_line, an_output as an_output_line}
+use Rattle.soda_syntax.proofs.SmallLines.{AreSmallStatements, none_small, small_before, IsSmallFormula, IsSmallLine, formula_small, plain_small, small_syntax}
+use Rattle.soda_syntax.specs.SyntaxError.{IsHead, IsSyntax}
 use Rattle.soda_syntax.specs.Statements.{PlainStatement, border, param, input, local, output}
 use Rattle.soda_syntax.specs.declared.statement.Extent.{Extent}
 use Rattle.soda_syntax.specs.declared.statement.Extent.TheVariants.{Fixed, Open}
@@ -30,6 +33,7 @@ use Rattle.soda_parse.proofs.Lookups.{Fresh, fresh_back, fresh_front, there_mapp
 use Rattle.soda_parse.proofs.ReadBack.{sizes_on}
 use Rattle.soda_parse.proofs.ReadProgram.{names_fresh, tensor_there, tensors_ordered}
 use Rattle.soda_parse.proofs.SameTypes.{both_of}
+use Rattle.soda_parse.proofs.SmallFormulas.{small_tokens}
 use Rattle.soda_parse.proofs.Statements.{AreDefined, none_defined, a_local, an_output, AreOrdered, no_input, an_input, declared_from, formula_on, input_on, param_on, statements_of, tensors_from, tile_of, word, written, zeros}
 use Rattle.soda_parse.proofs.WrittenFormulas.{AreItems, IsFree, in_round, is_formula, on, on_both}
 
@@ -110,31 +114,46 @@ output_line_is p line name ty f h u s =
     let head : IsOutputHead (name_on line (codes "output") ∷ side p line ty name) (word line (type_text ty)) (word line name) (zeros p) = record { line = line; bank = []; rest = side p line ty name; is = refl; banked = no_bank; side = side_is p line ty name } in
     subst (λ (ps : List Placed). IsStatement (name_on line (codes "output") ∷ ps) (output (formula_on p line ty name f))) (sym (split_side p line ty name f)) (an_output_line (word line (type_text ty)) (word line name) head (is_formula p line f h u s))
 
-defined_lines : (p : PlainProgram) (line : ℕ) {ts : List PlainTensor} → IsFree p → AreDefined ts → list_all (has_good_uses p) ts ≡ true → AreSizedTensors ts → AreStatements (placed_lines line (map (tensor_tokens p) ts)) (tensors_from p line ts)
+-- the formula of a line is small
+small_side : (p : PlainProgram) (line : ℕ) (word : List ℕ) (ty : IntType) (name : List ℕ) (f : Formula) → IsHead (name_on line word ∷ side p line ty name) → IsSmallFormula (on line (formula_tokens p f)) → IsSmallLine (on line (Name word ∷ sided p ty name f))
+small_side p line w ty name f head small =
+    subst (λ (ps : List Placed). IsSmallLine (name_on line w ∷ ps)) (sym (split_side p line ty name f)) (formula_small (name_on line w ∷ side p line ty name) (on line (formula_tokens p f)) head small)
+
+local_head : (p : PlainProgram) (line : ℕ) (ty : IntType) (name : List ℕ) → IsHead (name_on line (codes "local") ∷ side p line ty name)
+local_head p line ty name =
+    (word line (type_text ty), word line name, zeros p, inl (record { line = line; rest = side p line ty name; is = refl; side = side_is p line ty name }))
+
+output_head : (p : PlainProgram) (line : ℕ) (ty : IntType) (name : List ℕ) → IsHead (name_on line (codes "output") ∷ side p line ty name)
+output_head p line ty name =
+    (word line (type_text ty), word line name, zeros p, inr (record { line = line; bank = []; rest = side p line ty name; is = refl; banked = no_bank; side = side_is p line ty name }))
+
+defined_lines : (p : PlainProgram) (line : ℕ) {ts : List PlainTensor} → IsFree p → AreDefined ts → list_all (has_good_uses p) ts ≡ true → list_all (is_small p) ts ≡ true → AreSizedTensors ts → AreSmallStatements (placed_lines line (map (tensor_tokens p) ts)) (tensors_from p line ts)
 unfolding role_word
-defined_lines p line h none_defined u s = no_statement
-defined_lines p line h (a_local {ts} n ty f more) u s =
+defined_lines p line h none_defined u m s = none_small
+defined_lines p line h (a_local {ts} n ty f more) u m s =
     let both = both_of (each_use (is_good_cell p) (is_good_place p) f) (list_all (has_good_uses p) ts) u in
-    statement_before (local_line_is p line n ty f h both.0 s.0.1) (defined_lines p (suc line) h more both.1 s.1)
-defined_lines p line h (an_output {ts} n ty f more) u s =
+    let few = both_of (nat_le (token_count p f) 1500 && nat_le (most_open p f) 64) (list_all (is_small p) ts) m in
+    small_before (local_line_is p line n ty f h both.0 s.0.1) (small_side p line (codes "local") ty n f (local_head p line ty n) (small_tokens p line f h both.0 s.0.1 few.0)) (defined_lines p (suc line) h more both.1 few.1 s.1)
+defined_lines p line h (an_output {ts} n ty f more) u m s =
     let both = both_of (each_use (is_good_cell p) (is_good_place p) f) (list_all (has_good_uses p) ts) u in
-    statement_before (output_line_is p line n ty f h both.0 s.0.1) (defined_lines p (suc line) h more both.1 s.1)
+    let few = both_of (nat_le (token_count p f) 1500 && nat_le (most_open p f) 64) (list_all (is_small p) ts) m in
+    small_before (output_line_is p line n ty f h both.0 s.0.1) (small_side p line (codes "output") ty n f (output_head p line ty n) (small_tokens p line f h both.0 s.0.1 few.0)) (defined_lines p (suc line) h more both.1 few.1 s.1)
 
 input_line_is : (p : PlainProgram) (line : ℕ) (name : List ℕ) (ty : IntType) → IsStatement (name_on line (codes "input") ∷ name_on line (type_text ty) ∷ symbol_on line Colon ∷ name_on line name ∷ on line (listed_tokens (tile_tokens p.extents))) (input (input_on p line ty name))
 input_line_is p line name ty =
     an_input_line line line (word line (type_text ty)) (word line name) no_bank (may_be_type line ty) (a_tile (extents_are line p.extents))
 
-tensor_lines : (p : PlainProgram) (line : ℕ) {ts : List PlainTensor} → IsFree p → AreOrdered ts → list_all (has_good_uses p) ts ≡ true → AreSizedTensors ts → AreStatements (placed_lines line (map (tensor_tokens p) ts)) (tensors_from p line ts)
+tensor_lines : (p : PlainProgram) (line : ℕ) {ts : List PlainTensor} → IsFree p → AreOrdered ts → list_all (has_good_uses p) ts ≡ true → list_all (is_small p) ts ≡ true → AreSizedTensors ts → AreSmallStatements (placed_lines line (map (tensor_tokens p) ts)) (tensors_from p line ts)
 unfolding role_word
-tensor_lines p line h (no_input d) u s = defined_lines p line h d u s
-tensor_lines p line h (an_input {ts} n ty more) u s =
-    statement_before (input_line_is p line n ty) (tensor_lines p (suc line) h more u s.1)
+tensor_lines p line h (no_input d) u m s = defined_lines p line h d u m s
+tensor_lines p line h (an_input {ts} n ty more) u m s =
+    small_before (input_line_is p line n ty) (plain_small (input_line_is p line n ty) refl) (tensor_lines p (suc line) h more u m s.1)
 
-declared_lines : (p : PlainProgram) (line : ℕ) (qs : List PlainParam) {ts : List PlainTensor} → IsFree p → AreOrdered ts → list_all is_good_param qs ≡ true → list_all (has_good_uses p) ts ≡ true → AreSizedTensors ts → AreStatements (placed_lines line (map param_tokens qs ++ map (tensor_tokens p) ts)) (declared_from p line qs ts)
-declared_lines p line [] h d g u s = tensor_lines p line h d u s
-declared_lines p line (q ∷ qs) h d g u s =
+declared_lines : (p : PlainProgram) (line : ℕ) (qs : List PlainParam) {ts : List PlainTensor} → IsFree p → AreOrdered ts → list_all is_good_param qs ≡ true → list_all (has_good_uses p) ts ≡ true → list_all (is_small p) ts ≡ true → AreSizedTensors ts → AreSmallStatements (placed_lines line (map param_tokens qs ++ map (tensor_tokens p) ts)) (declared_from p line qs ts)
+declared_lines p line [] h d g u m s = tensor_lines p line h d u m s
+declared_lines p line (q ∷ qs) h d g u m s =
     let both = both_of (is_good_param q) (list_all is_good_param qs) g in
-    statement_before (param_line_is line q both.0) (declared_lines p (suc line) qs h d both.1 u s)
+    small_before (param_line_is line q both.0) (plain_small (param_line_is line q both.0) refl) (declared_lines p (suc line) qs h d both.1 u m s)
 
 border_is : (line : ℕ) (b : Border) → IsStatement (on line (Name (codes "border") ∷ Sign Colon ∷ Name (border_word b) ∷ [])) (border line (elim b as (λ v. Bool) [ Ignore ↦ false | Preserve ↦ true ]))
 unfolding border_word
@@ -166,12 +185,14 @@ are_free p v =
       params = λ k q e. free_there qs k q.name (fresh_front qs ts f) (there_mapped (λ (r : PlainParam). r.name) p.params k q e);
     }
 
--- the tokens of the canonical text are the statements of the program
-pub written_lines : (p : PlainProgram) → IsValid p → IsSizedProgram p → AreStatements (placed_lines 1 (canonical_tokens p)) (statements_of p)
+-- the tokens of the canonical text are the statements of the program, and no formula is too large
+pub written_lines : (p : PlainProgram) → IsValid p → IsSizedProgram p → IsSyntax (placed_lines 1 (canonical_tokens p)) (statements_of p)
 unfolding statements_of
 written_lines p v s =
-    statement_before (a_kernel 1 1 1 p.kernel)
-    (statement_before (a_burst_width 2 2 2 2 p.burst)
-    (statement_before (an_unroll_factor 3 3 3 3 p.unroll)
-    (statement_before (an_iterate 4 4 4 p.iterate)
-    (statement_before (border_is 5 p.border) (declared_lines p 6 p.params (are_free p v) (tensors_ordered p v) v.sound.parts.params v.sound.parts.uses s.tensors)))))
+    let rest = declared_lines p 6 p.params (are_free p v) (tensors_ordered p v) v.sound.parts.params v.sound.parts.uses v.sound.parts.small s.tensors in
+    small_syntax
+    (small_before (a_kernel 1 1 1 p.kernel) (plain_small (a_kernel 1 1 1 p.kernel) refl)
+    (small_before (a_burst_width 2 2 2 2 p.burst) (plain_small (a_burst_width 2 2 2 2 p.burst) refl)
+    (small_before (an_unroll_factor 3 3 3 3 p.unroll) (plain_small (an_unroll_factor 3 3 3 3 p.unroll) refl)
+    (small_before (an_iterate 4 4 4 p.iterate) (plain_small (an_iterate 4 4 4 p.iterate) refl)
+    (small_before (border_is 5 p.border) (plain_small (border_is 5 p.border) refl) rest)))))
