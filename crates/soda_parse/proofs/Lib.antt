@@ -30,3 +30,4 @@ pub mod FineProgram
 pub mod WrittenFormulas
 pub mod SmallFormulas
 pub mod WrittenLines
+pub mod Accepted

@@ -8,3 +8,4 @@ pub mod Read
 pub mod Readable
 pub mod Sizing
 pub mod Ascii
+pub mod Short
