@@ -1,17 +1,15 @@
 -- The canonical text of a program is accepted as that program, and as no other.
-use Rattle.std.proofs.Common.{◌≡◌, ℕ, List, length, None, Option, Result, Ok, Err, refl, sym, ap, ◌∙◌, subst}
-use Rattle.std.specs.Prelude.{◌≤◌, IfOk}
+use Rattle.std.proofs.Common.{◌≡◌, ℕ, List, Result, Ok, Err, sym, subst}
+use Rattle.std.specs.Prelude.{IfOk}
 use Rattle.soda_ir.specs.Program.{PlainProgram}
 use Rattle.soda_ir.specs.Valid.{IsValid}
 use Rattle.soda_parse.specs.Text.{Accepts}
 use Rattle.soda_print.specs.Canonical.{canonical}
 use Rattle.soda_print.specs.Sized.{IsSizedProgram}
 use Rattle.soda_print.proofs.Ascii.{canonical_ascii}
-use Rattle.soda_print.proofs.Read.{canonical_tokens, placed_lines}
 use Rattle.soda_print.proofs.Readable.{canonical_read, readable}
 use Rattle.soda_print.proofs.Short.{canonical_short}
 use Rattle.soda_syntax.specs.SyntaxError.{IsSyntax}
-use Rattle.soda_words.specs.Tokens.{tokens_of}
 use Rattle.soda_words.specs.declared.token.Placed.{Placed}
 use Rattle.soda_parse.proofs.Exclusive.{program_is_one}
 use Rattle.soda_parse.proofs.FineProgram.{not_refused}
@@ -38,14 +36,14 @@ pub alone : (bytes : List ℕ) (p q : PlainProgram) → IsValid p → IsSizedPro
 alone bytes p q v s e w t f = program_is_one 67108864 bytes q p (accepted_text bytes q w t (sym f)) (accepted_text bytes p v s e)
 
 -- the same of an answer
-pub text_read_back : {A E : Type 0} (bytes_of : A → List ℕ) (r : Result A E) (p : PlainProgram) → IsValid p → IfOk r (λ t. bytes_of t ≡ canonical p) → IfOk r (λ t. IsSizedProgram p) → IfOk r (λ t. Accepts 67108864 (bytes_of t) p)
-text_read_back bytes_of (Ok t) p v e s = accepted_text (bytes_of t) p v s e
-text_read_back bytes_of (Err f) p v e s = tt
+pub text_read_back : {A E : Type 0} (bytes_of : A → List ℕ) (r : Result A E) (p : PlainProgram) → IfOk r (λ t. bytes_of t ≡ canonical p) → IfOk r (λ t. IsValid p) → IfOk r (λ t. IsSizedProgram p) → IfOk r (λ t. Accepts 67108864 (bytes_of t) p)
+text_read_back bytes_of (Ok t) p e v s = accepted_text (bytes_of t) p v s e
+text_read_back bytes_of (Err f) p e v s = tt
 
-pub text_of_one : {A E : Type 0} (bytes_of : A → List ℕ) (r : Result A E) (p : PlainProgram) → IsValid p → IfOk r (λ t. bytes_of t ≡ canonical p) → IfOk r (λ t. IsSizedProgram p) → IfOk r (λ t. (q : PlainProgram) → Accepts 67108864 (bytes_of t) q → q ≡ p)
-text_of_one bytes_of (Ok t) p v e s = λ q a. program_is_one 67108864 (bytes_of t) q p a (accepted_text (bytes_of t) p v s e)
-text_of_one bytes_of (Err f) p v e s = tt
+pub text_of_one : {A E : Type 0} (bytes_of : A → List ℕ) (r : Result A E) (p : PlainProgram) → IfOk r (λ t. bytes_of t ≡ canonical p) → IfOk r (λ t. IsValid p) → IfOk r (λ t. IsSizedProgram p) → IfOk r (λ t. (q : PlainProgram) → Accepts 67108864 (bytes_of t) q → q ≡ p)
+text_of_one bytes_of (Ok t) p e v s = λ q a. program_is_one 67108864 (bytes_of t) q p a (accepted_text (bytes_of t) p v s e)
+text_of_one bytes_of (Err f) p e v s = tt
 
-pub text_alone : {A E : Type 0} (bytes_of : A → List ℕ) (r : Result A E) (p : PlainProgram) → IsValid p → IfOk r (λ t. bytes_of t ≡ canonical p) → IfOk r (λ t. IsSizedProgram p) → IfOk r (λ t. (q : PlainProgram) → IsValid q → IsSizedProgram q → canonical q ≡ bytes_of t → q ≡ p)
-text_alone bytes_of (Ok t) p v e s = λ q w u f. alone (bytes_of t) p q v s e w u f
-text_alone bytes_of (Err f) p v e s = tt
+pub text_alone : {A E : Type 0} (bytes_of : A → List ℕ) (r : Result A E) (p : PlainProgram) → IfOk r (λ t. bytes_of t ≡ canonical p) → IfOk r (λ t. IsValid p) → IfOk r (λ t. IsSizedProgram p) → IfOk r (λ t. (q : PlainProgram) → IsValid q → IsSizedProgram q → canonical q ≡ bytes_of t → q ≡ p)
+text_alone bytes_of (Ok t) p e v s = λ q w u f. alone (bytes_of t) p q v s e w u f
+text_alone bytes_of (Err f) p e v s = tt

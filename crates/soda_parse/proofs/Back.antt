@@ -1,18 +1,17 @@
 -- What the statements of a program say is the program again: the parts of their outline.
-use Rattle.std.proofs.Common.{◌≡◌, ℕ, zero, suc, ◌+◌, ◌*◌, ◌/◌, ◌%◌, ◌<◌, ◌≤◌, ◌^◌, ◌==◌, ◌&&◌, ◌||◌, Bool, true, false, not, nat_le, nat_lt, List, [], ◌∷◌, ◌++◌, length, map, Some, None, Option, refl, sym, ap, ◌∙◌, arith, cond, ℤ, pos}
-use Rattle.std.specs.Prelude.{find, flat_map, option_map, position, slice_get, unwrap_or, ◌-ℤ◌, if◌then◌else◌}
-use Rattle.std.specs.List.{list_all, list_any}
-use Rattle.std.proofs.lemmas.Int.{ints}
-use Rattle.int_types.specs.IntType.{IntType, IsType}
+use Rattle.std.proofs.Common.{◌≡◌, ℕ, suc, true, false, List, [], ◌∷◌, ◌++◌, length, map, Some, None, refl, sym, ap, ◌∙◌}
+use Rattle.std.specs.Prelude.{flat_map, position}
+use Rattle.std.specs.List.{list_any}
+use Rattle.int_types.specs.IntType.{IntType}
 use Rattle.soda_checks.specs.Conditions.{first_tile}
-use Rattle.soda_checks.specs.Outline.{is_same, outline_in, outline_of}
+use Rattle.soda_checks.specs.Outline.{outline_in, outline_of}
 use Rattle.soda_checks.specs.declared.outline.Defined.{Defined}
 use Rattle.soda_checks.specs.declared.outline.Outline.{Outline}
 use Rattle.soda_ir.specs.Counts.{is_input_role}
 use Rattle.soda_ir.specs.Formula.{Formula}
 use Rattle.soda_ir.specs.Program.{PlainParam, PlainProgram, PlainTensor}
 use Rattle.soda_ir.specs.declared.program.Role.TheVariants.{Input, Local, Output}
-use Rattle.soda_parse.specs.Meaning.{fixed_in, formula_of as meant, input_of, int_type, param_of, shifted, tensors_in, tensor_number, border_of}
+use Rattle.soda_parse.specs.Meaning.{fixed_in, formula_of as meant, input_of, int_type, param_of, tensors_in, tensor_number}
 use Rattle.soda_print.specs.Canonical.{type_text}
 use Rattle.soda_syntax.specs.declared.statement.Extent.TheVariants.{Fixed, Open}
 use Rattle.soda_syntax.specs.declared.statement.InputLine.{InputLine}

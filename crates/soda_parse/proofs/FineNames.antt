@@ -1,16 +1,15 @@
 -- The names and settings of a program's statements are fine.
-use Rattle.std.proofs.Common.{◌≡◌, ℕ, zero, suc, ◌+◌, ◌<◌, ◌≤◌, ◌==◌, ◌&&◌, ◌||◌, Bool, true, false, not, nat_le, nat_lt, List, [], ◌∷◌, ◌++◌, length, map, Some, None, Option, refl, sym, ap, ◌∙◌, arith, cond, ℤ, pos}
+use Rattle.std.proofs.Common.{◌≡◌, ℕ, suc, ◌<◌, ◌==◌, ◌&&◌, ◌||◌, Bool, true, false, not, List, [], ◌∷◌, ◌++◌, length, map, Some, None, Option, refl, sym, ap, ◌∙◌, arith, pos}
 use Rattle.std.specs.Prelude.{find, option_map, slice_get, is_none}
-use Rattle.std.specs.List.{list_all, list_any}
+use Rattle.std.specs.List.{list_any}
 use Rattle.std.proofs.lemmas.Bool.Decides.{nat_tests}
 use Rattle.std.proofs.lemmas.List.Folds.{list_any-append}
 use Rattle.std.proofs.Math.Dec.{eqb-suc-zero}
 use Rattle.int_types.specs.IntType.{IntType, IsType}
-use Rattle.soda_checks.specs.Conditions.{are_below, bad_width, first_by, first_tile, float_type, has_output, has_wrong_dims, is_tensor, is_unknown, is_wrong_site, line_where, missing, name_twice, need_unless, param_use, site_line, taken_behind, twice, twice_behind, unknown_name, wrong_dims, wrong_dims_beside}
+use Rattle.soda_checks.specs.Conditions.{are_below, first_by, has_output, has_wrong_dims, is_tensor, is_unknown, is_wrong_site, line_where, missing, name_twice, param_use, site_line, taken_behind, twice, twice_behind, unknown_name, wrong_dims, wrong_dims_beside}
 use Rattle.soda_checks.specs.Outline.{is_one_of, is_same, outline_in, outline_of}
 use Rattle.soda_checks.specs.Types.{is_float, type_of}
 use Rattle.soda_checks.specs.declared.outline.Defined.{Defined}
-use Rattle.soda_checks.specs.declared.outline.Outline.{Outline}
 use Rattle.soda_checks.specs.declared.outline.Setting.{Setting}
 use Rattle.soda_ir.specs.Counts.{is_output_role}
 use Rattle.soda_ir.specs.Points.{size}
@@ -23,17 +22,15 @@ use Rattle.soda_syntax.specs.declared.statement.Extent.{Extent}
 use Rattle.soda_syntax.specs.declared.statement.Extent.TheVariants.{Fixed, Open}
 use Rattle.soda_syntax.specs.declared.statement.InputLine.{InputLine}
 use Rattle.soda_syntax.specs.declared.statement.ParamLine.{ParamLine}
-use Rattle.soda_words.specs.Names.{is_free_name, is_name, is_reserved, is_word}
-use Rattle.soda_words.specs.Tokens.{or_else}
+use Rattle.soda_words.specs.Names.{is_name, is_reserved, is_word}
 use Rattle.soda_words.specs.declared.token.Word.{Word}
-use Rattle.soda_parse.proofs.Back.{tensor_names}
-use Rattle.soda_parse.proofs.FineSites.{AreTensors, Passes, far_none, sites_none, types_none}
+use Rattle.soda_parse.proofs.FineSites.{AreTensors, Passes, sites_none, types_none}
 use Rattle.soda_parse.proofs.Kept.{KeepsNames}
 use Rattle.soda_parse.proofs.Lookups.{Fresh, any_mapped, neither_of, one_there, there_front, there_mapped, word_sym}
-use Rattle.soda_parse.proofs.ReadBack.{IsCellThere, IsIndexed, IsParamAt, indexed, sizes_on}
+use Rattle.soda_parse.proofs.ReadBack.{IsIndexed, IsParamAt, indexed, sizes_on}
 use Rattle.soda_parse.proofs.ReadProgram.{knows, names_are, names_fresh, outline, tensor_there, tensors_ordered, tile_is}
 use Rattle.soda_parse.proofs.SameTypes.{both_of}
-use Rattle.soda_parse.proofs.Statements.{AreDefined, none_defined, a_local, an_output, AreOrdered, no_input, an_input, declared_from, param_on, statements_of, tensors_from, tile_of, word, zeros}
+use Rattle.soda_parse.proofs.Statements.{AreDefined, none_defined, a_local, an_output, AreOrdered, no_input, an_input, declared_from, statements_of, tensors_from, tile_of, word, zeros}
 use Rattle.soda_parse.proofs.TypeWords.{no_float, type_known}
 
 -- the settings are those five
@@ -272,4 +269,3 @@ names_fine p v s = record {
   known = all_known p v;
   dims = dims_fine p v;
 }
-

@@ -1,30 +1,27 @@
 -- No condition refuses the statements of a valid program.
-use Rattle.std.proofs.Common.{◌≡◌, ◌≢◌, ◌↔◌, ℕ, zero, suc, ◌+◌, ◌*◌, ◌<◌, ◌≤◌, ◌==◌, ◌&&◌, Bool, true, false, not, nat_le, nat_lt, List, [], ◌∷◌, ◌++◌, length, map, Some, None, Option, refl, sym, ap, ◌∙◌, arith, cond, length-append, mul_assoc, mul-one, one-mul}
+use Rattle.std.proofs.Common.{◌≡◌, ◌≢◌, ℕ, suc, ◌+◌, ◌*◌, ◌<◌, ◌≤◌, ◌==◌, ◌&&◌, Bool, true, false, not, nat_le, nat_lt, List, [], ◌∷◌, ◌++◌, length, map, Some, None, Option, refl, sym, ap, ◌∙◌, arith, length-append, mul_assoc, mul-one, one-mul}
 use Rattle.std.specs.Prelude.{find, option_map, slice_get, unwrap_or}
 use Rattle.std.specs.List.{list_all}
 use Rattle.std.proofs.lemmas.Bool.Decides.{nat_tests}
 use Rattle.std.proofs.lemmas.List.Sums.{sum_by-cons}
 use Rattle.std.proofs.lemmas.Nat.{mul-le}
 use Rattle.int_types.specs.IntType.{IntType}
-use Rattle.soda_checks.specs.Conditions.{first_tile, has_wrong_tile, is_same_tile, is_tile, wrong_tile}
+use Rattle.soda_checks.specs.Conditions.{has_wrong_tile, is_same_tile, is_tile, wrong_tile}
 use Rattle.soda_checks.specs.Outline.{outline_in, outline_of}
 use Rattle.soda_checks.specs.declared.outline.Defined.{Defined}
 use Rattle.soda_checks.specs.declared.outline.Outline.{Outline}
 use Rattle.soda_ir.specs.Counts.{can_be_placed}
 use Rattle.soda_ir.specs.Points.{size}
 use Rattle.soda_ir.specs.Program.{PlainParam, PlainProgram, PlainTensor, input_types, preserves}
-use Rattle.soda_ir.specs.Valid.{IsValid, fills_burst, is_good_param, output_types, value_count}
-use Rattle.soda_parse.specs.Limits.{are_same_types, bad_burst, circular, circular_from, first_past, iterate_mismatch, offset_past, outputs_fit, param_products, params_past, partial_products, preserve_mismatch, tile_past, unless_within, values_past}
-use Rattle.soda_parse.specs.Meaning.{program_by, tile_items}
+use Rattle.soda_ir.specs.Valid.{IsValid, is_good_param, output_types, value_count}
+use Rattle.soda_parse.specs.Limits.{are_same_types, bad_burst, circular_from, first_past, iterate_mismatch, offset_past, outputs_fit, param_products, partial_products, preserve_mismatch, unless_within, values_past}
+use Rattle.soda_parse.specs.Meaning.{tile_items}
 use Rattle.soda_parse.specs.Text.{count_refusal, late_refusal, names_refusal, refusal_by, shape_refusal, size_refusal, statement_refusal, use_refusal}
-use Rattle.soda_parse.specs.declared.refusal.Refusal.{Refusal}
 use Rattle.soda_print.specs.Sized.{IsSizedProgram}
 use Rattle.soda_print.proofs.Readable.{positive}
 use Rattle.soda_syntax.specs.declared.statement.Extent.{Extent}
 use Rattle.soda_syntax.specs.declared.statement.Extent.TheVariants.{Fixed, Open}
 use Rattle.soda_syntax.specs.declared.statement.InputLine.{InputLine}
-use Rattle.soda_words.specs.Tokens.{or_else}
-use Rattle.soda_parse.proofs.Back.{tensor_names}
 use Rattle.soda_parse.proofs.FineNames.{are_tensors, dims_are, names_fine, uses_fine}
 use Rattle.soda_parse.proofs.FineSites.{far_none, nonzero}
 use Rattle.soda_parse.proofs.Kept.{KeepsNames, KeepsRest, KeepsShape, KeepsSizes}

@@ -1,7 +1,7 @@
 -- What the conditions look at in the statements of a program: sites, types and names.
-use Rattle.std.proofs.Common.{◌≡◌, ℕ, zero, suc, ◌<◌, ◌≤◌, ◌==◌, ◌&&◌, ◌||◌, Bool, true, false, not, nat_le, nat_lt, List, [], ◌∷◌, ◌++◌, length, map, Some, None, Option, refl, sym, ap, ◌∙◌, arith, cond, ℤ}
-use Rattle.std.specs.Prelude.{find, slice_get, unsigned_abs, if◌then◌else◌}
-use Rattle.std.specs.List.{list_all, list_any}
+use Rattle.std.proofs.Common.{◌≡◌, ℕ, suc, ◌<◌, ◌==◌, ◌&&◌, Bool, true, false, not, nat_le, nat_lt, List, [], ◌∷◌, ◌++◌, length, map, Some, None, Option, refl, ap, ◌∙◌, arith, ℤ}
+use Rattle.std.specs.Prelude.{find, slice_get, unsigned_abs}
+use Rattle.std.specs.List.{list_all}
 use Rattle.std.proofs.lemmas.Bool.Decides.{nat_tests}
 use Rattle.int_types.specs.IntType.{IntType, IsType}
 use Rattle.soda_checks.specs.Conditions.{is_tensor}
@@ -13,9 +13,8 @@ use Rattle.soda_ir.specs.Formula.{Formula, number, read, param as value_of, unar
 use Rattle.soda_ir.specs.Points.{size}
 use Rattle.soda_ir.specs.Program.{PlainParam, PlainProgram, PlainTensor}
 use Rattle.soda_ir.specs.Uses.{each_use, is_good_cell, is_good_place, is_near}
-use Rattle.soda_ir.specs.Valid.{has_good_uses, is_good_param, names_of}
+use Rattle.soda_ir.specs.Valid.{has_good_uses, is_good_param}
 use Rattle.soda_parse.specs.Limits.{far_from, first_past, site_magnitudes}
-use Rattle.soda_parse.specs.Meaning.{shifted}
 use Rattle.soda_print.specs.Canonical.{indexes, tensor_name, type_text}
 use Rattle.soda_print.specs.Sized.{AreSizedParams, AreSizedTensors, IsSized}
 use Rattle.soda_syntax.specs.declared.statement.Size.{Size}

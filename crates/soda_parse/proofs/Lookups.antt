@@ -1,6 +1,6 @@
 -- Where names stand in lists of different names.
-use Rattle.std.proofs.Common.{◌≡◌, ℕ, zero, suc, ◌+◌, ◌<◌, ◌==◌, ◌&&◌, ◌||◌, Bool, true, false, not, List, [], ◌∷◌, ◌++◌, length, map, Some, None, Option, refl, sym, ap, ◌∙◌, arith, cond}
-use Rattle.std.specs.Prelude.{find, nat_lt, option_map, position, slice_get}
+use Rattle.std.proofs.Common.{◌≡◌, ℕ, zero, suc, ◌+◌, ◌==◌, ◌&&◌, ◌||◌, Bool, true, false, not, List, [], ◌∷◌, ◌++◌, length, map, Some, None, Option, refl, sym, ap, ◌∙◌, arith, cond}
+use Rattle.std.specs.Prelude.{nat_lt, option_map, position, slice_get}
 use Rattle.std.specs.List.{list_any, position_or_len}
 use Rattle.std.proofs.lemmas.Bool.{eqb-true, eq-eqb}
 use Rattle.std.proofs.lemmas.Bool.Decides.{nat_tests}
@@ -9,7 +9,6 @@ use Rattle.soda_words.specs.Names.{behind, is_free_name, is_word}
 use Rattle.soda_words.specs.Tokens.{or_else}
 use Rattle.soda_ir.specs.Valid.{are_free_names}
 use Rattle.soda_parse.proofs.SameTypes.{both_of}
-use Rattle.soda_parse.proofs.Tiling.{false_not}
 
 abbrev word_by : Option (List ℕ) → Bool → Bool
 word_by more t = elim (cond t more None) as (λ (r : Option (List ℕ)). Bool) [ None ↦ false | Some rest ↦ length rest == 0 ]

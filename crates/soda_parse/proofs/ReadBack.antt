@@ -1,7 +1,6 @@
 -- A formula's cells and values are found again under their names.
-use Rattle.std.proofs.Common.{◌≡◌, ℕ, zero, suc, ◌+◌, ◌*◌, ◌/◌, ◌%◌, ◌<◌, ◌≤◌, ◌^◌, ◌==◌, ◌&&◌, ◌||◌, Bool, true, false, not, nat_le, nat_lt, List, [], ◌∷◌, ◌++◌, length, map, Some, None, Option, refl, sym, ap, ◌∙◌, arith, cond, ℤ, pos}
-use Rattle.std.specs.Prelude.{find, flat_map, option_map, position, slice_get, unwrap_or, ◌-ℤ◌, if◌then◌else◌}
-use Rattle.std.specs.List.{list_all, list_any}
+use Rattle.std.proofs.Common.{◌≡◌, ℕ, zero, suc, ◌*◌, ◌/◌, ◌%◌, ◌<◌, ◌≤◌, ◌==◌, ◌&&◌, Bool, true, false, nat_le, nat_lt, List, [], ◌∷◌, ◌++◌, length, map, Some, None, Option, refl, sym, ap, ◌∙◌, arith, ℤ, pos}
+use Rattle.std.specs.Prelude.{find, option_map, position, slice_get, ◌-ℤ◌, if◌then◌else◌}
 use Rattle.std.proofs.lemmas.Bool.Decides.{nat_tests}
 use Rattle.std.proofs.lemmas.Int.{ints}
 use Rattle.std.proofs.lemmas.Nat.{div_below}
@@ -13,20 +12,18 @@ use Rattle.soda_checks.specs.Outline.{is_same}
 use Rattle.soda_checks.specs.declared.outline.Outline.{Outline}
 use Rattle.soda_ir.specs.Formula.{Formula, number, read, param as value_of, unary, binary, choice, cast}
 use Rattle.soda_ir.specs.Points.{size}
-use Rattle.soda_ir.specs.Program.{PlainParam, PlainProgram, PlainTensor}
+use Rattle.soda_ir.specs.Program.{PlainParam, PlainProgram}
 use Rattle.soda_ir.specs.Uses.{each_use, is_good_cell, is_good_place, is_near}
-use Rattle.soda_ir.specs.Valid.{is_good_param}
-use Rattle.soda_parse.specs.Meaning.{cell_formula, formula_of as meant, int_type, named_value, offset_or_none, place_at, place_of, shifted, tensor_number, value_formula}
-use Rattle.soda_print.specs.Canonical.{indexes, tensor_name, type_text}
+use Rattle.soda_parse.specs.Meaning.{cell_formula, formula_of as meant, named_value, offset_or_none, place_at, place_of, shifted, tensor_number}
+use Rattle.soda_print.specs.Canonical.{indexes, tensor_name}
 use Rattle.soda_syntax.specs.declared.statement.ParamLine.{ParamLine}
 use Rattle.soda_syntax.specs.declared.statement.Size.{Size}
 use Rattle.soda_words.specs.declared.token.Word.{Word}
 use Rattle.soda_words.specs.Names.{is_word}
 use Rattle.soda_parse.proofs.SameTypes.{both_of}
-use Rattle.soda_parse.proofs.Tiling.{false_not}
 use Rattle.soda_parse.proofs.Lookups.{Fresh, fails_there, place_first, place_next, word_self, word_sym}
 use Rattle.soda_parse.proofs.Back.{IsBack, IsTyped, param_lines}
-use Rattle.soda_parse.proofs.Statements.{param_on, word, written, written_value, zeros}
+use Rattle.soda_parse.proofs.Statements.{param_on, word, written_value, zeros}
 
 -- what stands under a param's name
 pub record IsParamAt (params : List ParamLine) (k : ℕ) (q : PlainParam) (w : Word) : Type 0 where

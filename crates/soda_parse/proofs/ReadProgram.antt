@@ -1,7 +1,7 @@
 -- The statements of a valid program stand for that program.
-use Rattle.std.proofs.Common.{◌≡◌, ℕ, zero, suc, ◌<◌, ◌≤◌, ◌&&◌, Bool, true, false, not, nat_le, List, [], ◌∷◌, ◌++◌, length, map, Some, None, Option, refl, sym, ap, ◌∙◌, arith, subst}
+use Rattle.std.proofs.Common.{◌≡◌, ℕ, zero, suc, ◌<◌, ◌≤◌, Bool, true, false, nat_le, List, [], ◌∷◌, ◌++◌, length, map, Some, None, Option, refl, sym, ap, ◌∙◌, arith, subst}
 use Rattle.std.specs.Prelude.{flat_map, slice_get, unwrap_or}
-use Rattle.std.specs.List.{list_all, list_any}
+use Rattle.std.specs.List.{list_all}
 use Rattle.std.proofs.lemmas.Bool.Decides.{nat_tests}
 use Rattle.soda_checks.specs.Conditions.{first_tile}
 use Rattle.soda_checks.specs.Outline.{outline_in, outline_of}
@@ -17,15 +17,12 @@ use Rattle.soda_parse.specs.Meaning.{border_of, fixed_in, input_of, param_of, pr
 use Rattle.soda_print.specs.Canonical.{tensor_name}
 use Rattle.soda_print.specs.Sized.{AreSizedParams, AreSizedTensors, IsSized, IsSizedProgram}
 use Rattle.soda_print.proofs.Readable.{count_there}
-use Rattle.soda_syntax.specs.Statements.{PlainStatement}
-use Rattle.soda_syntax.specs.declared.statement.Extent.{Extent}
 use Rattle.soda_syntax.specs.declared.statement.ParamLine.{ParamLine}
-use Rattle.soda_words.specs.Names.{is_word}
 use Rattle.soda_parse.proofs.SameTypes.{both_of}
-use Rattle.soda_parse.proofs.Back.{AreBack, AreTyped, IsBack, IsTensorBack, fixed_back, number_is, outline_names, outline_params, outline_tensors, outline_tile, param_lines, params_back, tensor_names}
+use Rattle.soda_parse.proofs.Back.{AreBack, AreTyped, IsBack, fixed_back, number_is, outline_names, outline_params, outline_tensors, outline_tile, param_lines, params_back, tensor_names}
 use Rattle.soda_parse.proofs.Lookups.{Fresh, fresh, fresh_back, fresh_front, place_there}
 use Rattle.soda_parse.proofs.ReadBack.{IsParamAt, Knows, formula_back, param_at}
-use Rattle.soda_parse.proofs.Statements.{AreOrdered, declared_from, ordered, statements_of, tile_of, word}
+use Rattle.soda_parse.proofs.Statements.{AreOrdered, ordered, statements_of, tile_of, word}
 use Rattle.soda_parse.proofs.TypeWords.{typed}
 
 -- the outline of a program's statements

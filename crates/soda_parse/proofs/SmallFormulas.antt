@@ -1,30 +1,28 @@
 -- A formula as it is written has no more tokens and open brackets than are counted of it.
-use Rattle.std.proofs.Common.{◌≡◌, inl, inr, ℕ, zero, suc, ◌+◌, ◌-◌, ◌*◌, ◌<◌, ◌≤◌, ◌==◌, ◌&&◌, Bool, true, false, not, List, [], ◌∷◌, ◌++◌, length, map, Some, None, Option, refl, sym, ap, ◌∙◌, subst, arith, append_assoc, append-nil, codes, ℤ}
+use Rattle.std.proofs.Common.{◌≡◌, inl, inr, ℕ, suc, ◌+◌, ◌-◌, ◌*◌, ◌≤◌, ◌==◌, ◌&&◌, Bool, true, false, List, [], ◌∷◌, ◌++◌, length, map, Some, None, Option, refl, sym, ap, ◌∙◌, subst, arith, append_assoc, append-nil, codes, ℤ}
 use Rattle.std.specs.Prelude.{max, nat_le, nat_lt, slice_get, if◌then◌else◌}
 use Rattle.std.proofs.lemmas.Bool.Decides.{nat_tests}
-use Rattle.int_types.specs.IntType.{IntType, IsType}
 use Rattle.int_types.specs.declared.operators.UnOp.{UnOp}
 use Rattle.int_types.specs.declared.operators.UnOp.TheVariants.{Plus, Minus, Flip, Not, Abs}
 use Rattle.int_types.specs.declared.operators.BinOp.{BinOp}
 use Rattle.int_types.specs.declared.operators.BinOp.TheVariants.{LogOr, LogAnd, BitOr, BitXor, BitAnd, Eq, Ne, Lt, Le, Gt, Ge, Add, Sub, Mul, Div, Rem, Min, Max}
-use Rattle.soda_formula.specs.Grammar.{symbol_on, name_on, number_on, word_on, AreParted, last_item, item_before, IsComponent, ahead, back, AreOffsets, AreIndexes, no_index, index_before}
-use Rattle.soda_formula.specs.Reading.{IsLarge, Place, outside, behind_name, in_offsets, counted, counted_tokens_from, open_behind, open_brackets_from, place_behind}
+use Rattle.soda_formula.specs.Grammar.{symbol_on, name_on, number_on, AreParted, last_item, item_before, IsComponent, ahead, back, AreOffsets, AreIndexes, no_index, index_before}
+use Rattle.soda_formula.specs.Reading.{Place, outside, behind_name, in_offsets, counted_tokens_from, open_behind, open_brackets_from, place_behind}
 use Rattle.soda_ir.specs.Formula.{Formula, number, read, param as value_of, unary, binary, choice, cast}
 use Rattle.soda_ir.specs.Points.{size}
 use Rattle.soda_ir.specs.Program.{PlainParam, PlainProgram}
 use Rattle.soda_ir.specs.Uses.{each_use, is_good_cell, is_good_place}
-use Rattle.soda_ir.specs.Written.{index_count, left_pairs, most_open, operand_pairs, pairs_round, right_pairs, token_count}
+use Rattle.soda_ir.specs.Written.{left_pairs, most_open, pairs_round, right_pairs, token_count}
 use Rattle.soda_print.specs.Canonical.{indexes, tensor_name, type_text}
 use Rattle.soda_print.specs.Sized.{IsSized}
-use Rattle.soda_print.proofs.Tokens.{on_line}
-use Rattle.soda_print.proofs.Tokenized.{behind_comma_tokens, binary_tokens, call_tokens, component_tokens, formula_tokens, index_tokens, infix_token, listed_tokens, pair_tokens, parted_tokens, unary_tokens}
+use Rattle.soda_print.proofs.Tokenized.{call_tokens, component_tokens, formula_tokens, index_tokens, listed_tokens, pair_tokens, parted_tokens}
 use Rattle.soda_syntax.proofs.SmallLines.{IsSmallFormula}
 use Rattle.soda_words.specs.Names.{is_cast_word, is_reserved}
 use Rattle.soda_words.specs.declared.symbol.Symbol.{Symbol}
 use Rattle.soda_words.specs.declared.symbol.Symbol.TheVariants.{BarBar, AmpAmp, EqualEqual, BangEqual, LessEqual, GreaterEqual, Bar, Caret, Amp, Less, Greater, PlusSign, MinusSign, Star, Slash, Percent, Tilde, Bang, OpenRound, CloseRound, Comma}
 use Rattle.soda_words.specs.declared.token.Placed.{Placed}
 use Rattle.soda_words.specs.declared.token.Token.{Token}
-use Rattle.soda_words.specs.declared.token.Token.TheVariants.{Name, Number, Sign}
+use Rattle.soda_words.specs.declared.token.Token.TheVariants.{Name, Sign}
 use Rattle.soda_parse.proofs.ReadBack.{cell_there}
 use Rattle.soda_parse.proofs.SameTypes.{both_of}
 use Rattle.soda_parse.proofs.WrittenFormulas.{IsFree, cast_word, numbers, offsets, on, on_both}

@@ -1,6 +1,6 @@
 -- The statements that the canonical text of a program says.
-use Rattle.std.proofs.Common.{◌≡◌, ℕ, suc, Bool, true, false, not, ◌&&◌, List, [], ◌∷◌, ◌++◌, map, Some, None, Option, ℤ, pos}
-use Rattle.std.specs.Prelude.{slice_get, if◌then◌else◌}
+use Rattle.std.proofs.Common.{◌≡◌, ℕ, suc, Bool, true, not, List, [], ◌∷◌, ◌++◌, map, Some, None, Option, ℤ, pos}
+use Rattle.std.specs.Prelude.{slice_get}
 use Rattle.std.specs.List.{list_all}
 use Rattle.int_types.specs.IntType.{IntType}
 use Rattle.soda_formula.specs.Terms.{Term, literal, cell, value, unary as unary_term, binary as binary_term, choice as choice_term, cast as cast_term}
@@ -16,7 +16,6 @@ use Rattle.soda_syntax.specs.declared.statement.Extent.{Extent}
 use Rattle.soda_syntax.specs.declared.statement.Extent.TheVariants.{Fixed, Open}
 use Rattle.soda_syntax.specs.declared.statement.InputLine.{InputLine}
 use Rattle.soda_syntax.specs.declared.statement.ParamLine.{ParamLine}
-use Rattle.soda_syntax.specs.declared.statement.Size.{Size}
 use Rattle.soda_words.specs.declared.token.Word.{Word}
 use Rattle.soda_parse.proofs.SameTypes.{both_of}
 

@@ -1,5 +1,5 @@
 -- The word of a type stands for that type.
-use Rattle.std.proofs.Common.{◌≡◌, ℕ, ◌<◌, ◌≤◌, ◌^◌, ◌&&◌, Bool, true, false, nat_le, List, [], ◌∷◌, ◌++◌, Some, None, Option, refl, sym, ap, ◌∙◌, arith, IsTrue, codes, lit<}
+use Rattle.std.proofs.Common.{◌≡◌, ℕ, ◌<◌, ◌≤◌, ◌^◌, Bool, true, false, nat_le, List, ◌++◌, Some, Option, refl, ap, arith, IsTrue, codes}
 use Rattle.std.specs.Prelude.{option_map, unwrap_or, if◌then◌else◌}
 use Rattle.std.specs.Fmt.{decimal}
 use Rattle.std.proofs.lemmas.Bool.Decides.{nat_tests}
@@ -10,9 +10,8 @@ use Rattle.soda_checks.specs.Types.{is_float, type_behind, type_of, width_of}
 use Rattle.soda_print.specs.Canonical.{type_text}
 use Rattle.soda_print.proofs.Tokens.{number_is, own}
 use Rattle.soda_words.specs.Names.{behind}
-use Rattle.soda_words.specs.Tokens.{is_number, or_else, value_behind}
+use Rattle.soda_words.specs.Tokens.{or_else, value_behind}
 use Rattle.soda_parse.proofs.Back.{IsTyped}
-use Rattle.soda_parse.proofs.Statements.{word}
 
 le_true : (a b : ℕ) → a ≤ b → nat_le a b ≡ true
 le_true a b h = grind (arith, nat_tests)

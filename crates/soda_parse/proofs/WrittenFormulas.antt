@@ -1,5 +1,5 @@
 -- The tokens of a formula as it is written are that formula.
-use Rattle.std.proofs.Common.{◌≡◌, ℕ, zero, suc, ◌<◌, ◌≤◌, ◌^◌, ◌==◌, ◌&&◌, ◌||◌, Bool, true, false, not, nat_le, nat_lt, inl, inr, List, [], ◌∷◌, ◌++◌, length, map, Some, None, Option, refl, sym, ap, ◌∙◌, arith, append_assoc, append-nil, codes, subst, ℤ, pos, negsuc}
+use Rattle.std.proofs.Common.{◌≡◌, ℕ, zero, suc, ◌<◌, ◌≤◌, ◌^◌, ◌==◌, ◌&&◌, ◌||◌, Bool, true, false, not, nat_lt, inl, inr, List, [], ◌∷◌, ◌++◌, length, map, Some, None, Option, refl, sym, ap, ◌∙◌, arith, append_assoc, append-nil, codes, subst, ℤ, pos, negsuc}
 use Rattle.std.specs.Prelude.{slice_get, if◌then◌else◌}
 use Rattle.std.specs.Fmt.{decimal}
 use Rattle.std.proofs.lemmas.Bool.Decides.{eqb_tells, nat_tests}
@@ -8,8 +8,8 @@ use Rattle.int_types.specs.declared.operators.UnOp.{UnOp}
 use Rattle.int_types.specs.declared.operators.UnOp.TheVariants.{Plus, Minus, Flip, Not, Abs}
 use Rattle.int_types.specs.declared.operators.BinOp.{BinOp}
 use Rattle.int_types.specs.declared.operators.BinOp.TheVariants.{LogOr, LogAnd, BitOr, BitXor, BitAnd, Eq, Ne, Lt, Le, Gt, Ge, Add, Sub, Mul, Div, Rem, Min, Max}
-use Rattle.soda_formula.specs.Terms.{Term, literal, cell, value, unary as unary_term, binary as binary_term, choice as choice_term, cast as cast_term}
-use Rattle.soda_formula.specs.Grammar.{symbol_on, name_on, number_on, word_on, AreParted, last_item, item_before, InRound, IsComponent, ahead, back, AreOffsets, AreIndexes, no_index, index_before, infix_of, prefix_of, call_text, IsTerm, tighter, joined, prefixed, a_literal, bracketed, a_cast, an_abs, a_call, a_choice, a_cell, a_value, IsFormula}
+use Rattle.soda_formula.specs.Terms.{Term, unary as unary_term, binary as binary_term, choice as choice_term, cast as cast_term}
+use Rattle.soda_formula.specs.Grammar.{symbol_on, name_on, AreParted, last_item, item_before, InRound, IsComponent, ahead, back, AreOffsets, AreIndexes, no_index, index_before, infix_of, call_text, IsTerm, tighter, joined, prefixed, a_literal, bracketed, a_cast, an_abs, a_call, a_choice, a_cell, a_value, IsFormula}
 use Rattle.soda_ir.specs.Formula.{Formula, number, read, param as value_of, unary, binary, choice, cast}
 use Rattle.soda_ir.specs.Points.{size}
 use Rattle.soda_ir.specs.Program.{PlainParam, PlainProgram}
@@ -18,14 +18,14 @@ use Rattle.soda_ir.specs.Written.{binary_level, left_pairs, level_of, operand_pa
 use Rattle.soda_print.specs.Canonical.{indexes, tensor_name, type_text}
 use Rattle.soda_print.specs.Sized.{IsSized}
 use Rattle.soda_print.proofs.Tokens.{number_is, on_line}
-use Rattle.soda_print.proofs.Tokenized.{behind_comma_tokens, binary_tokens, call_tokens, component_tokens, formula_tokens, index_tokens, infix_token, listed_tokens, pair_tokens, parted_tokens, unary_tokens, value_tokens}
+use Rattle.soda_print.proofs.Tokenized.{behind_comma_tokens, binary_tokens, call_tokens, component_tokens, formula_tokens, index_tokens, listed_tokens, pair_tokens, unary_tokens}
 use Rattle.soda_words.specs.Names.{is_cast_word, is_reserved, is_some_digits}
-use Rattle.soda_words.specs.Tokens.{begins_with_zero, is_number, value_behind}
+use Rattle.soda_words.specs.Tokens.{begins_with_zero, value_behind}
 use Rattle.soda_words.specs.declared.symbol.Symbol.{Symbol}
 use Rattle.soda_words.specs.declared.symbol.Symbol.TheVariants.{BarBar, AmpAmp, EqualEqual, BangEqual, LessEqual, GreaterEqual, Bar, Caret, Amp, Less, Greater, PlusSign, MinusSign, Star, Slash, Percent, Tilde, Bang, OpenRound, CloseRound, Comma}
 use Rattle.soda_words.specs.declared.token.Placed.{Placed}
 use Rattle.soda_words.specs.declared.token.Token.{Token}
-use Rattle.soda_words.specs.declared.token.Token.TheVariants.{Name, Number, Sign}
+use Rattle.soda_words.specs.declared.token.Token.TheVariants.{Name, Sign}
 use Rattle.soda_parse.proofs.ReadBack.{cell_there}
 use Rattle.soda_parse.proofs.SameTypes.{both_of}
 use Rattle.soda_parse.proofs.Statements.{word, written, written_value}

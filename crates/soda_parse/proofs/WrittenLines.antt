@@ -1,28 +1,26 @@
 -- The lines of the canonical text are the statements of the program.
-use Rattle.std.proofs.Common.{◌≡◌, ℕ, zero, suc, ◌<◌, ◌≤◌, ◌&&◌, Bool, true, false, not, nat_le, inl, inr, List, [], ◌∷◌, ◌++◌, length, map, Some, None, Option, refl, sym, ap, ◌∙◌, arith, append_assoc, codes, subst, ℤ, pos}
+use Rattle.std.proofs.Common.{◌≡◌, ℕ, zero, suc, ◌≤◌, ◌&&◌, Bool, true, false, not, nat_le, inl, inr, List, [], ◌∷◌, ◌++◌, length, map, Some, refl, sym, ap, ◌∙◌, arith, append_assoc, codes, subst, pos}
 use Rattle.std.specs.Prelude.{slice_get, if◌then◌else◌}
 use Rattle.std.specs.Fmt.{decimal}
 use Rattle.std.specs.List.{list_all}
 use Rattle.std.proofs.lemmas.Bool.Decides.{nat_tests}
 use Rattle.int_types.specs.IntType.{IntType}
-use Rattle.soda_formula.specs.Grammar.{symbol_on, name_on, number_on, word_on, IsComponent, ahead, AreOffsets, InRound, AreParted}
+use Rattle.soda_formula.specs.Grammar.{symbol_on, name_on, IsComponent, ahead, AreOffsets, InRound, AreParted}
 use Rattle.soda_ir.specs.Formula.{Formula}
-use Rattle.soda_ir.specs.Program.{PlainParam, PlainProgram, PlainTensor, preserves}
+use Rattle.soda_ir.specs.Program.{PlainParam, PlainProgram, PlainTensor}
 use Rattle.soda_ir.specs.Uses.{each_use, is_good_cell, is_good_place}
 use Rattle.soda_ir.specs.Written.{most_open, token_count}
-use Rattle.soda_ir.specs.Valid.{IsValid, has_good_uses, is_good_param, is_small, names_of}
+use Rattle.soda_ir.specs.Valid.{IsValid, has_good_uses, is_good_param, is_small}
 use Rattle.soda_ir.specs.declared.program.Border.{Border}
 use Rattle.soda_ir.specs.declared.program.Border.TheVariants.{Ignore, Preserve}
 use Rattle.soda_print.specs.Canonical.{border_word, role_word, tensor_name, type_text}
 use Rattle.soda_print.specs.Sized.{AreSizedTensors, IsSized, IsSizedProgram}
-use Rattle.soda_print.proofs.Read.{canonical_tokens, head_tokens, left_tokens, param_tokens, placed_lines, setting_tokens, tensor_tokens, tile_tokens}
-use Rattle.soda_print.proofs.Tokens.{on_line}
+use Rattle.soda_print.proofs.Read.{canonical_tokens, left_tokens, param_tokens, placed_lines, tensor_tokens, tile_tokens}
 use Rattle.soda_print.proofs.Tokenized.{formula_tokens, index_tokens, listed_tokens}
-use Rattle.soda_syntax.specs.Grammar.{IsExtent, a_number, a_star, AreSizes, no_size, size_before, no_bank, MayBeType, IsTile, a_tile, IsLeftSide, IsLocalHead, IsOutputHead, IsStatement, a_kernel, a_burst_width, an_unroll_factor, an_iterate, ignored_border, preserved_border, a_param, an_input as an_input_line, a_local as a_local_line, an_output as an_output_line}
+use Rattle.soda_syntax.specs.Grammar.{IsExtent, a_number, a_star, AreSizes, no_size, size_before, no_bank, MayBeType, a_tile, IsLeftSide, IsLocalHead, IsOutputHead, IsStatement, a_kernel, a_burst_width, an_unroll_factor, an_iterate, ignored_border, preserved_border, a_param, an_input as an_input_line, a_local as a_local_line, an_output as an_output_line}
 use Rattle.soda_syntax.proofs.SmallLines.{AreSmallStatements, none_small, small_before, IsSmallFormula, IsSmallLine, formula_small, plain_small, small_syntax}
 use Rattle.soda_syntax.specs.SyntaxError.{IsHead, IsSyntax}
-use Rattle.soda_syntax.specs.Statements.{PlainStatement, border, param, input, local, output}
-use Rattle.soda_syntax.specs.declared.statement.Extent.{Extent}
+use Rattle.soda_syntax.specs.Statements.{border, param, input, local, output}
 use Rattle.soda_syntax.specs.declared.statement.Extent.TheVariants.{Fixed, Open}
 use Rattle.soda_words.specs.Names.{is_name, is_reserved, is_word}
 use Rattle.soda_words.specs.declared.symbol.Symbol.TheVariants.{Star, Colon, EqualSign}
@@ -34,7 +32,7 @@ use Rattle.soda_parse.proofs.ReadBack.{sizes_on}
 use Rattle.soda_parse.proofs.ReadProgram.{names_fresh, tensor_there, tensors_ordered}
 use Rattle.soda_parse.proofs.SameTypes.{both_of}
 use Rattle.soda_parse.proofs.SmallFormulas.{small_tokens}
-use Rattle.soda_parse.proofs.Statements.{AreDefined, none_defined, a_local, an_output, AreOrdered, no_input, an_input, declared_from, formula_on, input_on, param_on, statements_of, tensors_from, tile_of, word, written, zeros}
+use Rattle.soda_parse.proofs.Statements.{AreDefined, none_defined, a_local, an_output, AreOrdered, no_input, an_input, declared_from, formula_on, input_on, param_on, statements_of, tensors_from, word, zeros}
 use Rattle.soda_parse.proofs.WrittenFormulas.{AreItems, IsFree, in_round, is_formula, on, on_both}
 
 not_dram : (s : Bool) (n : ℕ) → is_word (codes "dram") ((if s then codes "int" else codes "uint") ++ decimal n) ≡ false

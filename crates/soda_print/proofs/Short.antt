@@ -1,5 +1,5 @@
 -- The canonical text of a valid program is no longer than a text may be.
-use Rattle.std.proofs.Common.{◌≡◌, ℕ, zero, suc, ◌+◌, ◌*◌, ◌<◌, ◌≤◌, ◌^◌, ◌==◌, ◌&&◌, Bool, true, false, not, nat_le, nat_lt, List, [], ◌∷◌, ◌++◌, length, map, Some, None, Option, slice_get, ℤ, pos, negsuc, unsigned_abs, refl, sym, ap, ◌∙◌, arith, codes, length-append, subst, if◌then◌else◌}
+use Rattle.std.proofs.Common.{◌≡◌, ℕ, suc, ◌+◌, ◌*◌, ◌<◌, ◌≤◌, ◌^◌, ◌==◌, ◌&&◌, Bool, true, false, not, nat_le, nat_lt, List, [], ◌∷◌, ◌++◌, length, map, Some, None, Option, ℤ, pos, negsuc, unsigned_abs, refl, ap, arith, codes, length-append, if◌then◌else◌}
 use Rattle.std.specs.Fmt.{decimal, signed_decimal}
 use Rattle.std.specs.List.{list_all}
 use Rattle.std.proofs.lemmas.Bool.Decides.{nat_tests}
@@ -20,9 +20,9 @@ use Rattle.soda_ir.specs.declared.program.Border.TheVariants.{Ignore, Preserve}
 use Rattle.soda_ir.specs.declared.program.Role.{Role}
 use Rattle.soda_ir.specs.declared.program.Role.TheVariants.{Input, Local, Output}
 use Rattle.soda_words.specs.Names.{begins_name, is_name, is_word_byte}
-use Rattle.soda_print.specs.Canonical.{behind_commas, binary_text, binary_word, border_word, canonical, canonical_lines, closing, ended, formula_text, headed, in_pairs, indexes, indexes_text, left_text, listed, opening, param_line, parted, role_word, setting_lines, tensor_line, tensor_name, tile_text, type_text, unary_text, unary_word, value_text}
+use Rattle.soda_print.specs.Canonical.{behind_commas, binary_text, binary_word, border_word, canonical, ended, formula_text, headed, in_pairs, indexes, indexes_text, left_text, listed, param_line, parted, role_word, setting_lines, tensor_line, tensor_name, tile_text, type_text, unary_text, unary_word, value_text}
 use Rattle.soda_print.specs.Sized.{IsSizedProgram}
-use Rattle.soda_print.proofs.Read.{AreParams, AreSettings, AreTensors, IsBody, IsReadBack, body_text}
+use Rattle.soda_print.proofs.Read.{AreParams, AreSettings, AreTensors, IsBody, IsReadBack}
 use Rattle.soda_print.proofs.Readable.{positive, readable}
 use Rattle.soda_print.proofs.Tokens.{first, second}
 use Rattle.soda_print.proofs.Tokenized.{AreSmall, AreWords, IsValueThere, IsWritable, value_is}

@@ -1,6 +1,7 @@
 ghost use Rattle.std.specs.Prelude.{◌≡◌, ◌++◌, map, codes, IfOk, OnOk};
 ghost use Rattle.std.specs.Fmt.{decimal};
 ghost use Rattle.soda_ir.specs.Program.{plain, plain_param, plain_tensor};
+ghost use Rattle.soda_ir.specs.Valid.{IsValid};
 ghost use Rattle.int_types.specs.IntType.{IsType};
 ghost use Rattle.soda_print.specs.Sized.{AreSizedParams, AreSizedTensors, IsSizedProgram, IsSizedTensor};
 ghost use Rattle.soda_print.specs.Canonical.{canonical, ended, headed, param_line, setting_lines, tensor_line};
@@ -140,6 +141,7 @@ fn add_tensors(
 /// The canonical text of a program.
 pub fn print(alloc: Global, program: &Program) -> Result<Vec<u8>, NoMemory>
     ensures text { IfOk result (λ text. text.items ≡ canonical (plain program.now)) }
+    ensures valid { IfOk result (λ text. IsValid (plain program.now)) }
     ensures sized { IfOk result (λ text. IsSizedProgram (plain program.now)) }
 {
     let parts = program.parts();

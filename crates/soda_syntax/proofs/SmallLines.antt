@@ -2,14 +2,11 @@
 use Rattle.std.proofs.Common.{◌≡◌, inl, inr, Bool, true, false, List, [], ◌∷◌, ◌++◌, length, drop, refl, sym, ◌∙◌, ap, subst, arith}
 use Rattle.std.proofs.lemmas.List.{drop_all}
 use Rattle.soda_words.specs.declared.token.Placed.{Placed}
-use Rattle.soda_formula.specs.Terms.{Term}
 use Rattle.soda_formula.specs.Reading.{IsLarge}
-use Rattle.soda_syntax.specs.declared.stage.LeftSide.{LeftSide}
 use Rattle.soda_syntax.specs.declared.stage.Role.{Role}
 use Rattle.soda_syntax.specs.declared.stage.Role.TheVariants.{Parameter, Source, Middle, Target}
-use Rattle.soda_syntax.specs.declared.stage.Stage.TheVariants.{Start, Formula}
 use Rattle.soda_syntax.specs.Grammar.{IsStatement, AreStatements, no_statement, statement_before}
-use Rattle.soda_syntax.specs.Lines.{line_as, line_of}
+use Rattle.soda_syntax.specs.Lines.{line_as}
 use Rattle.soda_syntax.specs.Statements.{PlainFormulaLine, PlainStatement, local, output}
 use Rattle.soda_syntax.specs.SyntaxError.{IsHead, IsSyntax}
 use Rattle.soda_syntax.proofs.Chain.{Reads, reads_none, reads_more}
