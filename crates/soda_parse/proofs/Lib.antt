@@ -19,3 +19,16 @@ pub mod Texts
 pub mod Link
 pub mod Listed
 pub mod Exclusive
+pub mod Statements
+pub mod Lookups
+pub mod Back
+pub mod ReadBack
+pub mod TypeWords
+pub mod ReadProgram
+pub mod FineSites
+pub mod FineNames
+pub mod FineProgram
+pub mod WrittenFormulas
+pub mod SmallFormulas
+pub mod WrittenLines
+pub mod Accepted

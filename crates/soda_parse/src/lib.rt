@@ -3,6 +3,9 @@
 
 mod formulas;
 mod limits;
+mod printing;
+#[cfg(test)]
+mod printing_tests;
 mod program;
 mod reading;
 mod refusal;
@@ -10,6 +13,7 @@ mod refusing;
 #[cfg(test)]
 mod tests;
 
+pub use printing::print;
 pub use reading::{ParseFail, parse};
 pub use refusal::Refusal;
 pub use soda_checks::Need;

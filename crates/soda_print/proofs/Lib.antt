@@ -2,3 +2,10 @@ pub mod Appended
 mod Examples
 pub mod Operators
 pub mod Written
+pub mod Tokens
+pub mod Tokenized
+pub mod Read
+pub mod Readable
+pub mod Sizing
+pub mod Ascii
+pub mod Short

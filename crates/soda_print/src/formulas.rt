@@ -2,6 +2,7 @@ ghost use Rattle.std.specs.Prelude.{◌≡◌, ◌++◌, OnOk};
 ghost use Rattle.soda_ir.specs.Program.{plain};
 ghost use Rattle.soda_ir.specs.Tree.{formula_of};
 ghost use Rattle.soda_print.specs.Canonical.{formula_text, indexes, indexes_text, tensor_name, value_text};
+ghost use Rattle.soda_print.specs.Sized.{IsSized};
 ghost use Rattle.soda_print.specs.Steps.{binary_begin, binary_end, binary_middle, unary_begin, unary_end};
 
 use crate::NoMemory;
@@ -137,7 +138,8 @@ pub(crate) fn add_formula(
     parts: &Parts,
     formula: &Expr,
 ) -> Result<(), NoMemory>
-    ensures { OnOk result (text.new.items ≡ text.old.items ++ formula_text (plain parts.now) (formula_of formula.now)) }
+    ensures adds { OnOk result (text.new.items ≡ text.old.items ++ formula_text (plain parts.now) (formula_of formula.now)) }
+    ensures sized { OnOk result (IsSized (formula_of formula.now)) }
 {
     match formula {
         Expr::Num(n) => add_number(alloc, text, *n),

@@ -1,6 +1,9 @@
 ghost use Rattle.std.specs.Prelude.{◌≡◌, ◌++◌, map, codes, IfOk, OnOk};
 ghost use Rattle.std.specs.Fmt.{decimal};
 ghost use Rattle.soda_ir.specs.Program.{plain, plain_param, plain_tensor};
+ghost use Rattle.soda_ir.specs.Valid.{IsValid};
+ghost use Rattle.int_types.specs.IntType.{IsType};
+ghost use Rattle.soda_print.specs.Sized.{AreSizedParams, AreSizedTensors, IsSizedProgram, IsSizedTensor};
 ghost use Rattle.soda_print.specs.Canonical.{canonical, ended, headed, param_line, setting_lines, tensor_line};
 
 use crate::NoMemory;
@@ -58,7 +61,8 @@ fn add_head(
     ty: Ty,
     name: &[u8],
 ) -> Result<(), NoMemory>
-    ensures { OnOk result (text.new.items ≡ text.old.items ++ headed word.now ty name.now) }
+    ensures adds { OnOk result (text.new.items ≡ text.old.items ++ headed word.now ty name.now) }
+    ensures allowed { OnOk result (IsType ty) }
 {
     add(text, word)?;
     add(text, b" ")?;
@@ -70,7 +74,8 @@ fn add_head(
 // Adds the line of a param.
 #[tactic(auto, using(crate::proofs::Appended::appended))]
 fn add_param(alloc: Global, text: &mut Vec<u8>, param: &Param) -> Result<(), NoMemory>
-    ensures { OnOk result (text.new.items ≡ text.old.items ++ (param_line (plain_param param.now) ++ codes "\n")) }
+    ensures adds { OnOk result (text.new.items ≡ text.old.items ++ (param_line (plain_param param.now) ++ codes "\n")) }
+    ensures allowed { OnOk result (IsType param.now.ty) }
 {
     add_head(alloc, text, b"param", param.ty, param.name.as_slice())?;
     add_indexes(alloc, text, param.sizes.as_slice())?;
@@ -79,7 +84,8 @@ fn add_param(alloc: Global, text: &mut Vec<u8>, param: &Param) -> Result<(), NoM
 
 // Adds the lines of params.
 fn add_params(alloc: Global, text: &mut Vec<u8>, params: &[Param]) -> Result<(), NoMemory>
-    ensures { OnOk result (text.new.items ≡ text.old.items ++ ended (map param_line (map plain_param params.now))) }
+    ensures adds { OnOk result (text.new.items ≡ text.old.items ++ ended (map param_line (map plain_param params.now))) }
+    ensures sized { OnOk result (AreSizedParams (map plain_param params.now)) }
 {
     for param in params {
         add_param(alloc, text, param)?;
@@ -95,7 +101,8 @@ fn add_tensor(
     parts: &Parts,
     tensor: &Tensor,
 ) -> Result<(), NoMemory>
-    ensures { OnOk result (text.new.items ≡ text.old.items ++ (tensor_line (plain parts.now) (plain_tensor tensor.now) ++ codes "\n")) }
+    ensures adds { OnOk result (text.new.items ≡ text.old.items ++ (tensor_line (plain parts.now) (plain_tensor tensor.now) ++ codes "\n")) }
+    ensures sized { OnOk result (IsSizedTensor (plain_tensor tensor.now)) }
 {
     add_head(
         alloc,
@@ -122,7 +129,8 @@ fn add_tensors(
     parts: &Parts,
     tensors: &[Tensor],
 ) -> Result<(), NoMemory>
-    ensures { OnOk result (text.new.items ≡ text.old.items ++ ended (map (tensor_line (plain parts.now)) (map plain_tensor tensors.now))) }
+    ensures adds { OnOk result (text.new.items ≡ text.old.items ++ ended (map (tensor_line (plain parts.now)) (map plain_tensor tensors.now))) }
+    ensures sized { OnOk result (AreSizedTensors (map plain_tensor tensors.now)) }
 {
     for tensor in tensors {
         add_tensor(alloc, text, parts, tensor)?;
@@ -132,7 +140,9 @@ fn add_tensors(
 
 /// The canonical text of a program.
 pub fn print(alloc: Global, program: &Program) -> Result<Vec<u8>, NoMemory>
-    ensures { IfOk result (λ text. text.items ≡ canonical (plain program.now)) }
+    ensures text { IfOk result (λ text. text.items ≡ canonical (plain program.now)) }
+    ensures valid { IfOk result (λ text. IsValid (plain program.now)) }
+    ensures sized { IfOk result (λ text. IsSizedProgram (plain program.now)) }
 {
     let parts = program.parts();
     let mut text = Vec::new(alloc);

@@ -196,38 +196,39 @@ fn prints_avg(rt: HostRuntime) -> Result<(), Fail> {
     Ok(())
 }
 
+const FORMULAS: [(Shape, &str); 26] = [
+    (Shape::Right(BinOp::Sub, BinOp::Add), "1 - (2 + 3)"),
+    (Shape::Left(BinOp::Sub, BinOp::Add), "1 + 2 - 3"),
+    (Shape::Right(BinOp::Add, BinOp::Mul), "1 + 2 * 3"),
+    (Shape::Left(BinOp::Rem, BinOp::Sub), "(1 - 2) % 3"),
+    (Shape::Right(BinOp::LogOr, BinOp::LogAnd), "1 || 2 && 3"),
+    (Shape::Left(BinOp::LogAnd, BinOp::LogOr), "(1 || 2) && 3"),
+    (Shape::Right(BinOp::BitAnd, BinOp::BitXor), "1 & (2 ^ 3)"),
+    (Shape::Left(BinOp::BitOr, BinOp::BitAnd), "1 & 2 | 3"),
+    (Shape::Right(BinOp::Lt, BinOp::Ge), "1 < (2 >= 3)"),
+    (Shape::Left(BinOp::Eq, BinOp::Le), "1 <= 2 == 3"),
+    (Shape::Right(BinOp::Gt, BinOp::Ne), "1 > (2 != 3)"),
+    (Shape::Right(BinOp::Div, BinOp::Min), "1 / min(2, 3)"),
+    (Shape::Right(BinOp::Max, BinOp::LogOr), "max(1, 2 || 3)"),
+    (Shape::Over(UnOp::Minus, BinOp::Mul), "-(1 * 2)"),
+    (Shape::Over(UnOp::Not, BinOp::Max), "!max(1, 2)"),
+    (Shape::Over(UnOp::Abs, BinOp::Sub), "abs(1 - 2)"),
+    (Shape::Twice(UnOp::Minus, UnOp::Minus), "--1"),
+    (Shape::Twice(UnOp::Flip, UnOp::Abs), "~abs(1)"),
+    (Shape::Under(BinOp::Mul, UnOp::Plus), "+1 * +2"),
+    (Shape::Choice, "select(1, 2 + 3, y(0, 0))"),
+    (Shape::Cast, "int16(x(-1, 20))"),
+    (Shape::Cell, "x(-32768, 7)"),
+    (Shape::Value(0, 0), "c"),
+    (Shape::Value(1, 4), "v[4]"),
+    (Shape::Value(2, 6), "m[1][2]"),
+    (Shape::Number(u64::MAX), "18446744073709551615"),
+];
+
 #[test]
 fn prints_formulas(rt: HostRuntime) -> Result<(), Fail> {
     let alloc = rt.alloc();
-    let cases = [
-        (Shape::Right(BinOp::Sub, BinOp::Add), "1 - (2 + 3)"),
-        (Shape::Left(BinOp::Sub, BinOp::Add), "1 + 2 - 3"),
-        (Shape::Right(BinOp::Add, BinOp::Mul), "1 + 2 * 3"),
-        (Shape::Left(BinOp::Rem, BinOp::Sub), "(1 - 2) % 3"),
-        (Shape::Right(BinOp::LogOr, BinOp::LogAnd), "1 || 2 && 3"),
-        (Shape::Left(BinOp::LogAnd, BinOp::LogOr), "(1 || 2) && 3"),
-        (Shape::Right(BinOp::BitAnd, BinOp::BitXor), "1 & (2 ^ 3)"),
-        (Shape::Left(BinOp::BitOr, BinOp::BitAnd), "1 & 2 | 3"),
-        (Shape::Right(BinOp::Lt, BinOp::Ge), "1 < (2 >= 3)"),
-        (Shape::Left(BinOp::Eq, BinOp::Le), "1 <= 2 == 3"),
-        (Shape::Right(BinOp::Gt, BinOp::Ne), "1 > (2 != 3)"),
-        (Shape::Right(BinOp::Div, BinOp::Min), "1 / min(2, 3)"),
-        (Shape::Right(BinOp::Max, BinOp::LogOr), "max(1, 2 || 3)"),
-        (Shape::Over(UnOp::Minus, BinOp::Mul), "-(1 * 2)"),
-        (Shape::Over(UnOp::Not, BinOp::Max), "!max(1, 2)"),
-        (Shape::Over(UnOp::Abs, BinOp::Sub), "abs(1 - 2)"),
-        (Shape::Twice(UnOp::Minus, UnOp::Minus), "--1"),
-        (Shape::Twice(UnOp::Flip, UnOp::Abs), "~abs(1)"),
-        (Shape::Under(BinOp::Mul, UnOp::Plus), "+1 * +2"),
-        (Shape::Choice, "select(1, 2 + 3, y(0, 0))"),
-        (Shape::Cast, "int16(x(-1, 20))"),
-        (Shape::Cell, "x(-32768, 7)"),
-        (Shape::Value(0, 0), "c"),
-        (Shape::Value(1, 4), "v[4]"),
-        (Shape::Value(2, 6), "m[1][2]"),
-        (Shape::Number(u64::MAX), "18446744073709551615"),
-    ];
-    for (shape, formula_text) in cases {
+    for (shape, formula_text) in FORMULAS {
         let program = wide(alloc, formula(alloc, shape)?)?;
         let text = print(alloc, &program)?;
         let wanted = format!(in alloc; "{WIDE}{formula_text}\n")?;

@@ -1,5 +1,6 @@
 ghost use Rattle.std.specs.Prelude.{◌≡◌, ◌++◌, ◌∷◌, [], map, codes, OnOk, if◌then◌else◌, ◌==◌};
 ghost use Rattle.std.specs.Fmt.{decimal, signed_decimal};
+ghost use Rattle.int_types.specs.IntType.{IsType};
 ghost use Rattle.soda_print.specs.Canonical.{behind_commas, closing, indexes_text, listed, opening, parted, type_text};
 
 use crate::NoMemory;
@@ -39,7 +40,8 @@ fn add_component(alloc: Global, text: &mut Vec<u8>, component: i64) -> Result<()
 /// Adds a type.
 #[tactic(auto, using(crate::proofs::Appended::appended), unfolding(crate::specs::Canonical::type_text))]
 pub(crate) fn add_type(alloc: Global, text: &mut Vec<u8>, ty: Ty) -> Result<(), NoMemory>
-    ensures { OnOk result (text.new.items ≡ text.old.items ++ type_text ty) }
+    ensures adds { OnOk result (text.new.items ≡ text.old.items ++ type_text ty) }
+    ensures allowed { IsType ty }
 {
     if ty.signed() {
         add(text, b"int")?;

@@ -36,7 +36,7 @@ no_formula_before head x l stage h e nf = by x (sym (steps-append (Some Start) h
         absurd (some_not_none (ap left_of same ∙ nf))
     by (t ∷ x) f = absurd (some_not_none (sym f ∙ steps-formula l t x))
 
-no_large : (front : List Placed) (stage : Stage) → steps (Some Start) front ≡ Some stage → left_of stage ≡ None → (p y : List Placed) → front ≡ p ++ y → IsLargeLine p → ⊥
+pub no_large : (front : List Placed) (stage : Stage) → steps (Some Start) front ≡ Some stage → left_of stage ≡ None → (p y : List Placed) → front ≡ p ++ y → IsLargeLine p → ⊥
 no_large front stage e nf p y is large =
     let h : (l : LeftSide) × (steps (Some Start) large.head ≡ Some (Formula l)) = head_steps large.head large.left in
     let whole : large.head ++ (large.part ++ y) ≡ front = sym (append-assoc large.head large.part y) ∙ (ap (λ x. x ++ y) (sym large.is) ∙ sym is) in

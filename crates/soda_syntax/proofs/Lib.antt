@@ -15,3 +15,4 @@ mod Fronts
 mod Tops
 pub mod Laws
 mod Examples
+pub mod SmallLines
