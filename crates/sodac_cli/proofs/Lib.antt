@@ -6,4 +6,6 @@ pub mod Contents
 pub mod Behind
 pub mod Causes
 pub mod Uncreated
+pub mod Reading
+pub mod Printing
 pub mod Asked
