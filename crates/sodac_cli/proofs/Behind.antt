@@ -149,16 +149,16 @@ module _ (h : Holding) (j : Job) (bytes : List ℕ) (there : h (program_of j) �
       none s (subst P (some_same has.text bytes (sym has.there ∙ there)) has.refused)
 
 -- With nothing amiss the status is Ok, or for want of memory; and what isn't built, or is refused, is answered as such.
-module _ (old new : Holding) (j : Job) (before now out_before out_now : ℕ) where
-  pub complete : (s : Status) → Allows j s → Tells old new j s → IsOnlyCause old j s → Faults before now s → OutFaults out_before out_now s → IsFine old j → ¬ Rose before now
+module _ (old new : Holding) (j : Job) (before now : ℕ) where
+  pub complete : (out_before out_now : ℕ) (s : Status) → Allows j s → Tells old new j s → IsOnlyCause old j s → Faults before now s → OutFaults out_before out_now s → IsFine old j → ¬ Rose before now
       → (CanFailToPrint j → ¬ Rose out_before out_now) → (s ≡ is.Ok) ⊎ (s ≡ is.Memory)
-  complete is.Ok a t o f p fine sound quiet = inl refl
-  complete is.Memory a t o f p fine sound quiet = inr refl
-  complete is.NotYetBuilt a t o f p fine sound quiet = absurd (o.0 fine)
-  complete (is.Program r) a t o f p fine sound quiet = absurd (o.0 fine)
-  complete is.Usage a t o f p fine sound quiet = absurd t
-  complete is.OutFault a t o f p fine sound quiet = absurd (quiet a p)
-  complete (is.FileFault role) a t o f p fine sound quiet = absurd (sound f)
+  complete m n is.Ok a t o f p fine sound quiet = inl refl
+  complete m n is.Memory a t o f p fine sound quiet = inr refl
+  complete m n is.NotYetBuilt a t o f p fine sound quiet = absurd (o.0 fine)
+  complete m n (is.Program r) a t o f p fine sound quiet = absurd (o.0 fine)
+  complete m n is.Usage a t o f p fine sound quiet = absurd t
+  complete m n is.OutFault a t o f p fine sound quiet = absurd (quiet a p)
+  complete m n (is.FileFault role) a t o f p fine sound quiet = absurd (sound f)
 
   pub unbuilt : (s : Status) → Tells old new j s → IsOnlyCause old j s → Faults before now s → IsUnbuiltJob old j → ¬ Rose before now → (s ≡ is.NotYetBuilt) ⊎ (s ≡ is.Memory)
   unbuilt is.Ok t o f u sound = absurd (o.0 u)

@@ -8,4 +8,5 @@ pub mod Causes
 pub mod Uncreated
 pub mod Reading
 pub mod Printing
+pub mod Memory
 pub mod Asked

@@ -1,5 +1,5 @@
 -- A job of `check` behind the reading of its program.
-use Rattle.std.proofs.Common.{◌≡◌, ℕ, true, List, [], ◌∷◌, ◌++◌, map, length, take, Result, Ok, Err, refl, sym, ap, ◌∙◌, arith, inl, inr}
+use Rattle.std.proofs.Common.{◌≡◌, ℕ, true, List, [], ◌∷◌, ◌++◌, take, Result, Ok, refl, sym, ap, ◌∙◌, arith, inl, inr}
 use Rattle.std.proofs.lemmas.List.{append-nil, take_all}
 use Rattle.soda_io.specs.declared.error.IoErr.{IoErr}
 use Rattle.soda_io.specs.Store.{Store}
@@ -70,17 +70,6 @@ module _ (h : Holding) (old new : List ℕ) (same : new ≡ old) where
   plain_printed j is.NotYetBuilt = same
   plain_printed j (is.Program r) = same
   plain_printed j (is.FileFault role) = same
-
--- want of memory in the place of a status
-pub memory_printed : (h : Holding) (j : Job) (old new : List ℕ) (s : Status) → Prints h j old new s → Prints h j old new is.Memory
-memory_printed h j old new is.Ok t =
-    inr (λ q has. (length (printed j q), t q has ∙ ap (λ (xs : List ℕ). old ++ xs) (sym (take_all (length (printed j q)) (printed j q) (omega arith)))))
-memory_printed h j old new is.OutFault t = inr t
-memory_printed h j old new is.Memory t = t
-memory_printed h j old new is.Usage t = inl t
-memory_printed h j old new is.NotYetBuilt t = inl t
-memory_printed h j old new (is.Program r) t = inl t
-memory_printed h j old new (is.FileFault role) t = inl t
 
 -- a job that asked nothing of `out`
 pub stopped_out_faults : (n : ℕ) (s : Status) → IsOfProgram s → OutFaults n n s

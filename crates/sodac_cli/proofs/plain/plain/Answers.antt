@@ -1,8 +1,8 @@
-use Rattle.std.proofs.Common.{refl, subst}
+use Rattle.std.proofs.Common.{refl, subst, sym}
 use Rattle.soda_ir.specs.Program.{plain}
 use Rattle.soda_ir.specs.Sums.{IsSumProgram}
 use Rattle.sodac_cli.specs.Job.{job_of, plain_job}
-use Rattle.sodac_cli.specs.Meaning.{Holding, IsBegun, Tells}
+use Rattle.sodac_cli.specs.Meaning.{HasProgram, Holding, IsBegun, Tells}
 use Rattle.sodac_cli.proofs.Behind.{allows_behind, allows_of_program, asks_behind, same_holding}
 use Rattle.sodac_cli.proofs.Causes.{accepted_only}
 use Rattle.sodac_cli.proofs.Reading.{limit_stops, unbuilt_stops}
@@ -29,6 +29,12 @@ returns-in-Some-clause-stops g c = λ told.
     limit_stops _ _ _ (plain_job (job_of c.args.job.now)) (plain c.in-Ok.program) (c.in-Ok.ensures.goes told (plain_job (job_of c.args.job.now)) refl) c.in-Some.refusal sums c.in-Some.ensures
 
 -- behind the program
+pub run-requires-clause-program : goal.run-requires-clause-program
+run-requires-clause-program g c = λ told.
+    let w = c.in-Ok.ensures.goes told (plain_job (job_of c.args.job.now)) refl in
+    let P : Holding → Type 0 = λ h. HasProgram h (plain_job (job_of c.args.job.now)) (plain c.in-Ok.program) in
+    subst P (sym (same_holding (g.F.Files.store c.args.files.now) (g.F.Files.store c.read_program.new.files) w.keeps)) w.program
+
 pub returns-clause-allows : goal.returns-clause-allows
 returns-clause-allows g c = allows_behind (job_of c.args.job.now) c.run.result c.run.ensures.begun
 

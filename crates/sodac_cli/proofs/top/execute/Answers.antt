@@ -1,6 +1,30 @@
-use Rattle.std.proofs.Common.{◌∙◌, inl, inr}
+use Rattle.std.proofs.Common.{◌∙◌, inl, inr, subst, sym}
+use Rattle.sodac_cli.specs.declared.status.Status.{Status}
+use Rattle.sodac_cli.specs.Job.{job_files}
+use Rattle.sodac_cli.specs.Journal.{Asks}
+use Rattle.sodac_cli.specs.Meaning.{Before}
+use Rattle.sodac_cli.specs.Printed.{Prints}
 use Rattle.sodac_cli.proofs.Behind.{complete, refuses, unbuilt}
+use Rattle.sodac_cli.proofs.Memory.{memory_asked, memory_printed}
 use Rattle.sodac_cli.proofs.top.execute.Goals as goal
+
+pub returns-clause-asks : goal.returns-clause-asks
+returns-clause-asks g c = λ j a told.
+    let P : Status → Type 0 = λ s. Asks (g.F.Files.given c.args.files.now) (g.F.Files.store c.args.files.now) (g.F.Files.store c.job-status.new.files) (job_files j) (Before (g.F.Files.store c.args.files.now).bytes j) s in
+    let asks = (c.job-status.ensures.stops j a told).asks in
+    elim c.report.ensures.same [
+      | inl same ↦ subst P (sym same) asks
+      | inr memory ↦ subst P (sym memory) (memory_asked _ _ _ _ _ c.job-status.result asks)
+    ]
+
+pub returns-clause-prints : goal.returns-clause-prints
+returns-clause-prints g c = λ j a told also.
+    let P : Status → Type 0 = λ s. Prints (g.F.Files.store c.args.files.now).bytes j (g.S.Sink.taken c.args.out.now) (g.S.Sink.taken c.job-status.new.out) s in
+    let prints = c.job-status.ensures.prints j a told also in
+    elim c.report.ensures.same [
+      | inl same ↦ subst P (sym same) prints
+      | inr memory ↦ subst P (sym memory) (memory_printed _ j _ _ c.job-status.result prints)
+    ]
 
 pub returns-clause-complete : goal.returns-clause-complete
 returns-clause-complete g c = λ j a told fine sound quiet.
