@@ -5,6 +5,7 @@ use Rattle.std.proofs.lemmas.List.{append-nil}
 use mathlib.Core.Path.{fun_ext}
 use Rattle.soda_io.specs.Cause.{Rose}
 use Rattle.soda_io.specs.Store.{KeepsBytes, Store}
+use Rattle.soda_io.specs.declared.role.FileRole.{FileRole}
 use Rattle.soda_io.specs.declared.role.FileRole.TheVariants.{Program}
 use Rattle.whole_files.specs.Journal.{gots}
 use Rattle.whole_files.specs.declared.reading.ReadFail.{ReadFail}
@@ -186,7 +187,7 @@ allows_of_program j is.NotYetBuilt a = absurd a
 allows_of_program j is.Usage a = absurd a
 allows_of_program j is.OutFault a = absurd a
 allows_of_program j (is.Program r) a = tt
-allows_of_program j (is.FileFault role) a = tt
+allows_of_program j (is.FileFault role) a = (0, ap (λ (r : FileRole). Some r) (sym a))
 
 pub allows_behind : (j : PlainJob) (s : Status) → IsBehindProgram s → Allows (plain_job j) s
 allows_behind j is.Ok a = tt
@@ -195,7 +196,8 @@ allows_behind j is.NotYetBuilt a = tt
 allows_behind j is.Usage a = absurd a
 allows_behind j is.OutFault a = absurd a
 allows_behind j (is.Program r) a = tt
-allows_behind j (is.FileFault role) a = tt
+allows_behind j (is.FileFault role) (inl a) = (1, ap (λ (r : FileRole). Some r) (sym a))
+allows_behind j (is.FileFault role) (inr a) = (2, ap (λ (r : FileRole). Some r) (sym a))
 
 pub long_bytes : (old : Store) (name : List ℕ) (e : ReadFail) → e ≡ fail.TooLong → TextBytes old name (Err e) → (bytes : List ℕ) × (old.bytes name ≡ Some bytes) × (most_text < length bytes)
 long_bytes old name e same t = let P : ReadFail → Type 0 = λ x. TextBytes old name (Err x) in subst P same t

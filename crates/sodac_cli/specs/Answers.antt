@@ -3,11 +3,13 @@ use Rattle.std.specs.Prelude.{◌≡◌, ◌≢◌, ◌⊎◌, ℕ, List, codes,
 use Rattle.std.specs.Global.{Global}
 use Rattle.soda_io.specs.Cause.{Rose}
 use Rattle.soda_io.specs.Store.{Store, KeepsBytes}
-use Rattle.soda_io.specs.declared.role.FileRole.TheVariants.{Program}
+use Rattle.soda_io.specs.declared.role.FileRole.{FileRole}
+use Rattle.soda_io.specs.declared.role.FileRole.TheVariants.{Program, Input, Output}
 use Rattle.job_parts.specs.Words.{TakesWords, word}
 use Rattle.sodac_cli.specs.declared.status.Status.{Status}
 use Rattle.sodac_cli.specs.declared.status.Status.TheVariants as is
-use Rattle.sodac_cli.specs.Job.{Job, check_job, plain_job}
+use Rattle.sodac_cli.specs.Job.{Job, check_job, job_files, plain_job}
+use Rattle.sodac_cli.specs.Journal.{HasRole}
 
 -- which statuses the words allow: `Usage` exactly where they aren't taken, want of memory aside
 abbrev pub WordsSay : List (String Global) → Status → Type 0
@@ -54,6 +56,10 @@ abbrev pub CanBeUnbuilt : Job → Type 0
 CanBeUnbuilt (check_job program) = ⊥
 CanBeUnbuilt (plain_job j) = Unit {0}
 
+-- some file of the job has this role
+abbrev pub HasFileWith : Job → FileRole → Type 0
+HasFileWith j role = (n : ℕ) × HasRole (job_files j) n role
+
 -- which statuses a job can have
 abbrev pub Allows : Job → Status → Type 0
 Allows j is.Usage = ⊥
@@ -62,7 +68,7 @@ Allows j is.OutFault = CanFailToPrint j
 Allows j is.Ok = Unit {0}
 Allows j is.Memory = Unit {0}
 Allows j (is.Program r) = Unit {0}
-Allows j (is.FileFault role) = Unit {0}
+Allows j (is.FileFault role) = HasFileWith j role
 
 -- a status that the reading of the program can end with
 abbrev pub IsOfProgram : Status → Type 0
@@ -82,7 +88,7 @@ IsBehindProgram (is.Program r) = ⊥
 IsBehindProgram is.Ok = Unit {0}
 IsBehindProgram is.NotYetBuilt = Unit {0}
 IsBehindProgram is.Memory = Unit {0}
-IsBehindProgram (is.FileFault role) = Unit {0}
+IsBehindProgram (is.FileFault role) = (role ≡ Input 0) ⊎ (role ≡ Output 0)
 
 -- no fault of the files is passed over, and each has its count
 abbrev pub Faults : ℕ → ℕ → Status → Type 0

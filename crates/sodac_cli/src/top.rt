@@ -59,7 +59,7 @@ pub fn execute<F: Files, S: Sink, E: Sink>(
     ensures untouched { (¬ TakesWords words.now) ⊎ HasUnbuiltMode words.now → F.tells → Untouched (F.store files.old) (F.store files.new) }
     // A mode that isn't built is refused as such, want of memory aside.
     ensures refused { HasUnbuiltMode words.now → IsRefused result }
-    // `check` is built for each program, and `plain` prints nothing that could fail.
+    // `check` is built for each program, `plain` prints nothing that could fail, and a fault is of a file of the job.
     ensures allows { (j : Job) → AsksFor words.now j → Allows j result }
     // What is asked of the files, by the journal of calls, and which fault it ends with.
     ensures asks { (j : Job) → AsksFor words.now j → F.tells → Asks (F.given files.old) (F.store files.old) (F.store files.new) (job_files j) (Before (F.store files.old).bytes j) result }
@@ -67,8 +67,8 @@ pub fn execute<F: Files, S: Sink, E: Sink>(
     // of its bytes.
     ensures leaves { (j : Job) → AsksFor words.now j → F.tells → Leaves (F.store files.old) (F.store files.new) j }
     // At Ok all is well, and the output of `plain` holds the text of the defined array. `Program` and `NotYetBuilt` have
-    // their causes, and a fault of the input, of the output or of `out` comes only once the program is accepted and done
-    // for, and keeps the limits.
+    // their causes. A fault of the input or the output comes only once the job is begun, and one of `out` only where all
+    // is well.
     ensures tells { (j : Job) → AsksFor words.now j → F.tells → Tells (F.store files.old).bytes (F.store files.new).bytes j result }
     // No fault is passed over, and each has its count.
     ensures faults { Faults (F.faults files.old) (F.faults files.new) result }
