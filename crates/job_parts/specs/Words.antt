@@ -5,7 +5,7 @@ use Rattle.std.specs.List.{list_any}
 use Rattle.std.specs.Global.{Global}
 use Rattle.soda_words.specs.Names.{is_word}
 use Rattle.job_parts.specs.declared.words.Words.{Words}
-use Rattle.job_parts.specs.declared.words.Words.TheVariants.{Plain, Unbuilt, Untaken}
+use Rattle.job_parts.specs.declared.words.Words.TheVariants.{Check, Plain, Unbuilt, Untaken}
 
 -- the k-th word, and nothing past the end
 abbrev pub word : List (String Global) → ℕ → List ℕ
@@ -25,6 +25,10 @@ is_mode w = list_any (λ mode. is_word mode w) modes
 abbrev pub IsNumberWord : List ℕ → Type 0
 IsNumberWord w = (n : ℕ) × (n < 2 ^ 64) × (w ≡ decimal n)
 
+-- `check PROGRAM`
+abbrev pub AreCheckWords : List (String Global) → Type 0
+AreCheckWords words = length words ≡ 3
+
 -- `plain PROGRAM ROWS INPUT OUTPUT`, where the output is none of the files that are read
 pub record ArePlainWords (words : List (String Global)) : Type 0 where
   pub count : length words ≡ 6
@@ -32,10 +36,11 @@ pub record ArePlainWords (words : List (String Global)) : Type 0 where
   pub not_program : word words 5 ≢ word words 2
   pub not_input : word words 5 ≢ word words 4
 
--- behind the program's name the words begin with a mode, and in `plain` they are those that it takes
+-- behind the program's name the words begin with a mode, and in `check` and `plain` they are those that it takes
 pub record TakesWords (words : List (String Global)) : Type 0 where
   pub some : 2 ≤ length words
   pub mode : is_mode (word words 1) ≡ true
+  pub check : word words 1 ≡ codes "check" → AreCheckWords words
   pub plain : word words 1 ≡ codes "plain" → ArePlainWords words
 
 -- the words of `plain` in order
@@ -48,5 +53,6 @@ pub record IsPlain (words : List (String Global)) (program : List ℕ) (rows : �
 -- what was read of the words
 abbrev pub AreRead : List (String Global) → Words → Type 0
 AreRead words Untaken = ¬ TakesWords words
-AreRead words Unbuilt = TakesWords words × (word words 1 ≢ codes "plain")
+AreRead words Unbuilt = TakesWords words × (word words 1 ≢ codes "check") × (word words 1 ≢ codes "plain")
+AreRead words (Check program) = TakesWords words × (word words 1 ≡ codes "check") × (word words 2 ≡ program.now)
 AreRead words (Plain w) = TakesWords words × (word words 1 ≡ codes "plain") × IsPlain words w.program.now w.rows w.input.now w.output.now

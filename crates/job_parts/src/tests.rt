@@ -15,17 +15,20 @@ fn told(words: &Words) -> &'static str {
     match words {
         Words::Untaken => "untaken",
         Words::Unbuilt => "unbuilt",
+        Words::Check { .. } => "check",
         Words::Plain(_) => "plain",
     }
 }
 
 // Lines of words, and what is told of them.
-fn lines() -> [(&'static str, &'static str); 22] {
+fn lines() -> [(&'static str, &'static str); 26] {
     [
         ("sodac plain p.soda 5 in.txt out.txt", "plain"),
         ("sodac plain p 0 in out", "plain"),
         ("sodac plain p 18446744073709551615 in out", "plain"),
         ("sodac plain both 5 both out", "plain"),
+        ("sodac check p", "check"),
+        ("sodac check check", "check"),
         ("sodac", "untaken"),
         ("sodac help", "untaken"),
         ("sodac Plain p 5 in out", "untaken"),
@@ -39,7 +42,9 @@ fn lines() -> [(&'static str, &'static str); 22] {
         ("sodac plain p 18446744073709551616 in out", "untaken"),
         ("sodac plain p 5 in p", "untaken"),
         ("sodac plain p 5 in in", "untaken"),
-        ("sodac check", "unbuilt"),
+        ("sodac check", "untaken"),
+        ("sodac check p q", "untaken"),
+        ("sodac check p 5 in out", "untaken"),
         ("sodac plan --share p", "unbuilt"),
         ("sodac compile p p", "unbuilt"),
         ("sodac sim p 5 in out", "unbuilt"),
@@ -54,6 +59,11 @@ fn words_of_lines(rt: HostRuntime) -> Result<(), Fail> {
         assert_eq!(rt; told(&read_words(&words)), want, "{line}");
     }
     assert_eq!(rt; told(&read_words(&[])), "untaken");
+    let checked = words(rt.alloc(), "sodac check avg.soda")?;
+    let Words::Check { program } = read_words(&checked) else {
+        return Err("not check".into());
+    };
+    assert_eq!(rt; program, "avg.soda");
     let words = words(rt.alloc(), "sodac plain p.soda 5 in.txt out.txt")?;
     let Words::Plain(plain) = read_words(&words) else {
         return Err("not plain".into());

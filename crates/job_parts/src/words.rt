@@ -1,6 +1,6 @@
 ghost use Rattle.std.specs.Prelude.{◌≡◌, ◌≢◌, ◌<◌, ◌↔◌, true, codes, length, MatchOption};
 ghost use Rattle.std.specs.Fmt.{decimal};
-ghost use Rattle.job_parts.specs.Words.{ArePlainWords, AreRead, IsNumberWord, IsPlain, TakesWords, is_mode, word};
+ghost use Rattle.job_parts.specs.Words.{AreCheckWords, ArePlainWords, AreRead, IsNumberWord, IsPlain, TakesWords, is_mode, word};
 
 use soda_words::{is_word, number};
 
@@ -11,6 +11,11 @@ pub enum Words<'a> {
     Untaken,
     /// A mode that isn't built yet.
     Unbuilt,
+    /// `check PROGRAM`.
+    Check {
+        /// The name of the program's text.
+        program: &'a str,
+    },
     /// `plain PROGRAM ROWS INPUT OUTPUT`.
     Plain(PlainWords<'a>),
 }
@@ -54,6 +59,16 @@ fn number_word(word: &str) -> Option<u64>
     number(word.as_bytes())
 }
 
+// The word behind the mode `check`, if it is the only one.
+fn read_check(words: &[String]) -> Option<&str>
+    ensures { MatchOption result (AreCheckWords words.now → ⊥) (λ program. AreCheckWords words.now × (word words.now 2 ≡ program.now)) }
+{
+    if words.len() != 3 {
+        return None;
+    }
+    Some(word(words, 2))
+}
+
 // The words of the mode `plain`, if it takes them.
 fn read_plain(words: &[String]) -> Option<PlainWords<'_>>
     ensures { MatchOption result (ArePlainWords words.now → ⊥) (λ w. ArePlainWords words.now × IsPlain words.now w.program.now w.rows w.input.now w.output.now) }
@@ -88,6 +103,12 @@ pub fn read_words(words: &[String]) -> Words<'_>
     let mode = word(words, 1);
     if !is_mode(mode.as_bytes()) {
         return Words::Untaken;
+    }
+    if mode == "check" {
+        return match read_check(words) {
+            Some(program) => Words::Check { program },
+            None => Words::Untaken,
+        };
     }
     if mode != "plain" {
         return Words::Unbuilt;

@@ -1,15 +1,14 @@
 -- That all is well, that something isn't built, and each refusal exclude each other.
 use Rattle.std.proofs.Common.{◌≡◌, ◌<◌, ℕ, List, length, Some, refl, sym, subst, ◌∙◌, arith}
 use Rattle.soda_ir.specs.Program.{PlainProgram, cells_at}
-use Rattle.soda_ir.specs.Sums.{IsSumProgram}
 use Rattle.soda_parse.specs.Text.{Accepts, Refuses, too_long, no_ascii, no_syntax, not_valid}
 use Rattle.soda_parse.specs.declared.refusal.Refusal.{Refusal}
 use Rattle.soda_parse.specs.declared.refusal.Refusal.TheVariants.{TextTooLong}
 use Rattle.job_parts.specs.Cells.{AreCells}
 use Rattle.sodac_cli.specs.declared.status.Status.{Status}
 use Rattle.sodac_cli.specs.declared.status.Status.TheVariants as is
-use Rattle.sodac_cli.specs.Job.{PlainJob}
-use Rattle.sodac_cli.specs.Meaning.{HasProgram, HasRefusedText, Holding, IsBegun, IsFine, IsOnlyCause, IsRefusedJob, IsUnbuiltJob, KeepsLimits, PassesLimit, Tells, form, input, limit, many_cells, many_in_all, most_text, text}
+use Rattle.sodac_cli.specs.Job.{Job, check_job, plain_job}
+use Rattle.sodac_cli.specs.Meaning.{HasInputs, HasOddInputs, HasProgram, HasRefusedText, Holding, IsBegun, IsBuilt, IsFine, IsOnlyCause, IsRefusedJob, IsUnbuiltJob, KeepsItsLimits, KeepsLimits, PassesItsLimit, PassesLimit, Tells, form, input, limit, many_cells, many_in_all, most_text, text}
 
 some_same : {A : Type 0} (x y : A) → Some x ≡ Some y → x ≡ y
 some_same x y e = cc
@@ -25,8 +24,26 @@ one_limit p rows r s (many_cells lt e) (many_in_all le lt2 e2) = absurd (omega (
 one_limit p rows r s (many_in_all le lt e) (many_cells lt2 e2) = absurd (omega (arith, lt2, le))
 one_limit p rows r s (many_in_all le lt e) (many_in_all le2 lt2 e2) = e2 ∙ sym e
 
+-- the same of a job
+keeps_its_limits : (j : Job) (p : PlainProgram) (r : Refusal) → KeepsItsLimits j p → PassesItsLimit j p r → ⊥
+keeps_its_limits (check_job program) p r k x = absurd x
+keeps_its_limits (plain_job j) p r k x = keeps_none p j.rows r k x
+
+one_of_its_limits : (j : Job) (p : PlainProgram) (r s : Refusal) → PassesItsLimit j p r → PassesItsLimit j p s → s ≡ r
+one_of_its_limits (check_job program) p r s x y = absurd x
+one_of_its_limits (plain_job j) p r s x y = one_limit p j.rows r s x y
+
+-- inputs that are good are of the form that is built
+good_not_odd : (h : Holding) (j : Job) (p q : PlainProgram) → p ≡ q → HasInputs h j p → HasOddInputs h j q → ⊥
+good_not_odd h (check_job program) p q same good odd = absurd odd
+good_not_odd h (plain_job j) p q same good odd =
+    let bytes : good.bytes ≡ odd.bytes = some_same good.bytes odd.bytes (sym good.there ∙ odd.there) in
+    let P : List ℕ → Type 0 = λ t. AreCells (cells_at p j.rows) t good.cells in
+    let Q : PlainProgram → Type 0 = λ x. AreCells (cells_at x j.rows) odd.bytes good.cells in
+    odd.none good.cells (subst Q same (subst P bytes good.good))
+
 -- where the text stands for one program, and isn't refused
-module _ (h : Holding) (j : PlainJob) (p : PlainProgram) (only : (q : PlainProgram) → HasProgram h j q → q ≡ p) (unrefused : (r : Refusal) → HasRefusedText h j r → ⊥) where
+module _ (h : Holding) (j : Job) (p : PlainProgram) (only : (q : PlainProgram) → HasProgram h j q → q ≡ p) (unrefused : (r : Refusal) → HasRefusedText h j r → ⊥) where
   same_program : (q o : PlainProgram) → HasProgram h j q → HasProgram h j o → q ≡ o
   same_program q o a b = only q a ∙ sym (only o b)
 
@@ -34,32 +51,33 @@ module _ (h : Holding) (j : PlainJob) (p : PlainProgram) (only : (q : PlainProgr
   begun_unrefused b r (text t) = unrefused r t
   begun_unrefused b r (limit l) =
       let same : l.plain ≡ b.plain = same_program l.plain b.plain l.program b.program in
-      let P : PlainProgram → Type 0 = λ q. PassesLimit q j.rows r in
-      keeps_none b.plain j.rows r b.few (subst P same l.passed)
+      let P : PlainProgram → Type 0 = λ q. PassesItsLimit j q r in
+      keeps_its_limits j b.plain r b.few (subst P same l.passed)
 
   fine_built : IsFine h j → IsUnbuiltJob h j → ⊥
-  fine_built f (form u) = u.none (subst IsSumProgram (same_program f.begun.plain u.plain f.begun.program u.program) f.begun.sums)
+  fine_built f (form u) =
+      let P : PlainProgram → Type 0 = IsBuilt j in
+      u.none (subst P (same_program f.begun.plain u.plain f.begun.program u.program) f.begun.built)
   fine_built f (input u) =
-      let same : f.begun.plain ≡ u.begun.plain = same_program f.begun.plain u.begun.plain f.begun.program u.begun.program in
-      let bytes : f.input.bytes ≡ u.bytes = some_same f.input.bytes u.bytes (sym f.input.there ∙ u.there) in
-      let P : List ℕ → Type 0 = λ t. AreCells (cells_at f.begun.plain j.rows) t f.cells in
-      let Q : PlainProgram → Type 0 = λ q. AreCells (cells_at q j.rows) u.bytes f.cells in
-      u.none f.cells (subst Q same (subst P bytes f.input.good))
+      good_not_odd h j f.begun.plain u.begun.plain (same_program f.begun.plain u.begun.plain f.begun.program u.begun.program) f.input u.odd
 
   unbuilt_unrefused : IsUnbuiltJob h j → (r : Refusal) → IsRefusedJob h j r → ⊥
   unbuilt_unrefused (form u) r (text t) = unrefused r t
-  unbuilt_unrefused (form u) r (limit l) = u.none (subst IsSumProgram (same_program l.plain u.plain l.program u.program) l.sums)
+  unbuilt_unrefused (form u) r (limit l) =
+      let P : PlainProgram → Type 0 = IsBuilt j in
+      u.none (subst P (same_program l.plain u.plain l.program u.program) l.built)
   unbuilt_unrefused (input u) r x = begun_unrefused u.begun r x
 
   one_refusal : (r s : Refusal) → IsRefusedJob h j r → IsRefusedJob h j s → s ≡ r
   one_refusal r s (text t) y = absurd (unrefused r t)
   one_refusal r s (limit l) (text t) = absurd (unrefused s t)
   one_refusal r s (limit l) (limit m) =
-      let P : PlainProgram → Type 0 = λ q. PassesLimit q j.rows s in
-      one_limit l.plain j.rows r s l.passed (subst P (same_program m.plain l.plain m.program l.program) m.passed)
+      let P : PlainProgram → Type 0 = λ q. PassesItsLimit j q s in
+      one_of_its_limits j l.plain r s l.passed (subst P (same_program m.plain l.plain m.program l.program) m.passed)
 
   pub accepted_only : (new : Holding) (s : Status) → Tells h new j s → IsOnlyCause h j s
   accepted_only new is.Ok t = (fine_built t.0, begun_unrefused t.0.begun)
+  accepted_only new is.OutFault t = (fine_built t, begun_unrefused t.begun)
   accepted_only new is.NotYetBuilt t = ((λ f. fine_built f t), unbuilt_unrefused t)
   accepted_only new (is.Program r) t = ((λ f. begun_unrefused f.begun r t), (λ u. unbuilt_unrefused u r t), (λ s x. one_refusal r s t x))
   accepted_only new is.Usage t = tt
@@ -67,7 +85,7 @@ module _ (h : Holding) (j : PlainJob) (p : PlainProgram) (only : (q : PlainProgr
   accepted_only new (is.FileFault role) t = tt
 
 -- where the text stands for no program, and is refused for one cause
-pub refused_only : (h : Holding) (j : PlainJob) (r : Refusal) → ((q : PlainProgram) → HasProgram h j q → ⊥) → ((s : Refusal) → HasRefusedText h j s → s ≡ r) → IsOnlyCause h j (is.Program r)
+pub refused_only : (h : Holding) (j : Job) (r : Refusal) → ((q : PlainProgram) → HasProgram h j q → ⊥) → ((s : Refusal) → HasRefusedText h j s → s ≡ r) → IsOnlyCause h j (is.Program r)
 refused_only h j r none first =
     let unbuilt : IsUnbuiltJob h j → ⊥ = λ u. elim u [ form x ↦ none x.plain x.program | input x ↦ none x.begun.plain x.begun.program ] in
     let one : (s : Refusal) → IsRefusedJob h j s → s ≡ r = λ s x. elim x [ text t ↦ first s t | limit l ↦ absurd (none l.plain l.program) ] in

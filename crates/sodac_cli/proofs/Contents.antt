@@ -9,9 +9,9 @@ use Rattle.whole_files.specs.Writing.{WritesWhole, last_write}
 use Rattle.soda_ir.specs.Program.{PlainProgram, cells_at}
 use Rattle.soda_ir.specs.Sums.{IsSumProgram}
 use Rattle.job_parts.specs.Cells.{AreCells}
-use Rattle.sodac_cli.specs.Job.{PlainJob}
+use Rattle.sodac_cli.specs.Job.{PlainJob, plain_job}
 use Rattle.sodac_cli.specs.Journal.{creates}
-use Rattle.sodac_cli.specs.Meaning.{HasProgram, Holding, IsBegun, IsFine, IsTextOver, IsUnbuiltJob, input, Leaves, most_cells, most_total, output_text, total_at}
+use Rattle.sodac_cli.specs.Meaning.{HasProgram, Holding, IsBegun, IsFine, IsTextOver, IsUnbuiltJob, LeavesOutput, input, most_cells, most_total, output_text, total_at}
 use Rattle.sodac_cli.proofs.Running.{cells_short}
 
 -- entries among which a file was created
@@ -51,7 +51,7 @@ module _ (g m : ℕ) (s0 s1 s2 : Store) (j : PlainJob) (i k : ℕ) (o : Opens g 
 
   -- the output is created, and empty
   module _ (s3 : Store) (keeps : KeepsBytes s2 s3) (later : List FileCall) (more_calls : s3.calls ≡ s2.calls ++ later) where
-    pub created_leaves : Leaves s0 s3 j
+    pub created_leaves : LeavesOutput s0 s3 j
     created_leaves = record {
       others = λ n ne. keeps n ∙ cr.emptied.others n ne ∙ o.bytes n;
       output = λ es calls.
@@ -69,7 +69,7 @@ module _ (g m : ℕ) (s0 s1 s2 : Store) (j : PlainJob) (i k : ℕ) (o : Opens g 
       wrote_own r w =
           ap (λ (n : List ℕ). s4.bytes n) (sym output_name) ∙ w.own [] (ap (λ (n : List ℕ). s3.bytes n) output_name ∙ keeps j.output ∙ cr.emptied.own)
 
-      pub wrote_leaves : (f : IsFine s0.bytes j) → bytes ≡ output_text j f.begun.plain f.cells → (r : Result (Unit {0}) IoErr) → WritesWhole p s3 s4 k bytes r → Leaves s0 s4 j
+      pub wrote_leaves : (f : IsFine s0.bytes (plain_job j)) → bytes ≡ output_text s0.bytes j f → (r : Result (Unit {0}) IoErr) → WritesWhole p s3 s4 k bytes r → LeavesOutput s0 s4 j
       wrote_leaves f is r w = record {
         others = wrote_others r w;
         output = λ es calls.
@@ -81,15 +81,15 @@ module _ (g m : ℕ) (s0 s1 s2 : Store) (j : PlainJob) (i k : ℕ) (o : Opens g 
       pub wrote_all : (u : Unit {0}) → WritesWhole p s3 s4 k bytes (Ok u) → s4.bytes j.output ≡ Some bytes
       wrote_all u w = wrote_own (Ok u) w ∙ ap (λ (xs : List ℕ). Some xs) (take_all w.count bytes (omega (arith, w.all)))
 
-module _ (h : Holding) (j : PlainJob) (q : PlainProgram) (program : HasProgram h j q) (sums : IsSumProgram q) (small : cells_at q j.rows ≤ most_cells) (few : total_at q j.rows ≤ most_total) (bytes : List ℕ) (is : h j.input ≡ Some bytes) where
-  abbrev pub begun : IsBegun h j
-  begun = record { plain = q; program = program; sums = sums; few = record { cells = small; total = few } }
+module _ (h : Holding) (j : PlainJob) (q : PlainProgram) (program : HasProgram h (plain_job j) q) (sums : IsSumProgram q) (small : cells_at q j.rows ≤ most_cells) (few : total_at q j.rows ≤ most_total) (bytes : List ℕ) (is : h j.input ≡ Some bytes) where
+  abbrev pub begun : IsBegun h (plain_job j)
+  begun = record { plain = q; program = program; built = sums; few = record { cells = small; total = few } }
 
-  abbrev pub fine : (text : List ℕ) → IsTextOver q j.rows bytes text → IsFine h j
-  fine text t = record { begun = begun; cells = t.cells; input = record { bytes = bytes; there = is; good = t.good } }
+  abbrev pub fine : (text : List ℕ) → IsTextOver q j.rows bytes text → IsFine h (plain_job j)
+  fine text t = record { begun = begun; input = record { bytes = bytes; there = is; cells = t.cells; good = t.good } }
 
-  pub not_cells : ((cells : List ℤ) → AreCells (cells_at q j.rows) bytes cells → ⊥) → IsUnbuiltJob h j
-  not_cells none = input (record { begun = begun; bytes = bytes; there = is; none = none })
+  pub not_cells : ((cells : List ℤ) → AreCells (cells_at q j.rows) bytes cells → ⊥) → IsUnbuiltJob h (plain_job j)
+  not_cells none = input (record { begun = begun; odd = record { bytes = bytes; there = is; none = none } })
 
-  pub too_many : (most : ℕ) → most ≡ cells_at q j.rows * 4 → most < length bytes → IsUnbuiltJob h j
+  pub too_many : (most : ℕ) → most ≡ cells_at q j.rows * 4 → most < length bytes → IsUnbuiltJob h (plain_job j)
   too_many most e lt = not_cells (λ cells a. omega (arith, cells_short (cells_at q j.rows) bytes cells a))

@@ -6,4 +6,7 @@ pub mod Contents
 pub mod Behind
 pub mod Causes
 pub mod Uncreated
+pub mod Reading
+pub mod Printing
+pub mod Memory
 pub mod Asked

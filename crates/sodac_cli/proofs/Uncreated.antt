@@ -10,9 +10,9 @@ use Rattle.whole_files.specs.declared.reading.ReadFail.{ReadFail}
 use Rattle.whole_files.specs.declared.reading.ReadFail.TheVariants as fail
 use Rattle.sodac_cli.specs.declared.status.Status.{Status}
 use Rattle.sodac_cli.specs.declared.status.Status.TheVariants as is
-use Rattle.sodac_cli.specs.Job.{JobFile, PlainJob}
+use Rattle.sodac_cli.specs.Job.{Job, JobFile, PlainJob, check_job, plain_job, program_of}
 use Rattle.sodac_cli.specs.Journal.{Asks, Broken, Clean, Ends, asking, creates, makings}
-use Rattle.sodac_cli.specs.Meaning.{Holding, IsFront, Leaves}
+use Rattle.sodac_cli.specs.Meaning.{Holding, IsFront, Leaves, LeavesOutput}
 use Rattle.sodac_cli.specs.Stages.{ReadLog, TextLog}
 use Rattle.sodac_cli.proofs.Behind.{same_holding}
 use Rattle.sodac_cli.proofs.Logs.{opened}
@@ -48,49 +48,54 @@ unfolding AreOpened
 no_open es e = let P : List (Bool × List ℕ) → Type 0 = AreOpened in opens_only es (subst P (sym e) tt)
 
 -- no name changes, and these are the new entries
-module _ (a b : Store) (j : PlainJob) (keeps : KeepsBytes a b) where
-  kept : (es : List FileCall) → b.calls ≡ a.calls ++ es → creates es ≡ [] → Leaves a b j
-  kept es calls none = record {
+module _ (a b : Store) (keeps : KeepsBytes a b) where
+  kept : (j : Job) (es : List FileCall) → b.calls ≡ a.calls ++ es → creates es ≡ [] → Leaves a b j
+  kept (check_job program) es calls none = record {
+    bytes = keeps;
+    none = λ fs more. ap creates (append_cancel_left a.calls fs es (sym more ∙ calls)) ∙ none;
+  }
+  kept (plain_job j) es calls none = record {
     others = λ n ne. keeps n;
     output = λ fs more. inl (keeps j.output, ap creates (append_cancel_left a.calls fs es (sym more ∙ calls)) ∙ none);
   }
 
-  pub read_leaves : (g : ℕ) → ReadLog g a b j.program → Leaves a b j
-  read_leaves g l = kept l.clean.entries l.clean.calls (one_open l.clean.entries j.program l.clean.asked)
+  pub read_leaves : (g : ℕ) (j : Job) → ReadLog g a b (program_of j) → Leaves a b j
+  read_leaves g j l = kept j l.clean.entries l.clean.calls (one_open l.clean.entries (program_of j) l.clean.asked)
 
-  nothing_leaves : (g : ℕ) → Clean g a b [] → Leaves a b j
-  nothing_leaves g c = kept c.entries c.calls (no_open c.entries c.asked)
+  nothing_leaves : (g : ℕ) (j : Job) → Clean g a b [] → Leaves a b j
+  nothing_leaves g j c = kept j c.entries c.calls (no_open c.entries c.asked)
 
-  broken_leaves : (g n : ℕ) (name : List ℕ) → Broken g a b ((true, name) ∷ []) n → Leaves a b j
-  broken_leaves g n name w = kept (w.front ++ w.entry ∷ []) w.calls (one_open (w.front ++ w.entry ∷ []) name w.asked)
+  broken_leaves : (g n : ℕ) (name : List ℕ) (j : Job) → Broken g a b ((true, name) ∷ []) n → Leaves a b j
+  broken_leaves g n name j w = kept j (w.front ++ w.entry ∷ []) w.calls (one_open (w.front ++ w.entry ∷ []) name w.asked)
 
-  pub text_leaves : (g : ℕ) (e : ReadFail) → TextLog g a b j.program (Err e) → Leaves a b j
-  text_leaves g fail.TooLong l = read_leaves g l
-  text_leaves g fail.Failed l = broken_leaves g 0 j.program l
-  text_leaves g fail.Memory (inl c) = nothing_leaves g c
-  text_leaves g fail.Memory (inr l) = read_leaves g l
+  pub text_leaves : (g : ℕ) (j : Job) (e : ReadFail) → TextLog g a b (program_of j) (Err e) → Leaves a b j
+  text_leaves g j fail.TooLong l = read_leaves g j l
+  text_leaves g j fail.Failed l = broken_leaves g 0 (program_of j) j l
+  text_leaves g j fail.Memory (inl c) = nothing_leaves g j c
+  text_leaves g j fail.Memory (inr l) = read_leaves g j l
 
 -- the input can't be opened
-pub unopened_leaves : (g : ℕ) (a b : Store) (j : PlainJob) (e : IoErr) → Opens g a b j.input (Err e) → Leaves a b j
-unopened_leaves g a b j io.Failed o = kept a b j o.bytes (Open j.input None ∷ []) o.calls refl
-unopened_leaves g a b j io.Memory o = kept a b j o.bytes [] o.calls refl
+pub unopened_leaves : (g : ℕ) (a b : Store) (j : PlainJob) (e : IoErr) → Opens g a b j.input (Err e) → LeavesOutput a b j
+unopened_leaves g a b j io.Failed o = kept a b o.bytes (plain_job j) (Open j.input None ∷ []) o.calls refl
+unopened_leaves g a b j io.Memory o = kept a b o.bytes (plain_job j) [] o.calls refl
 
 -- the output can't be created
-pub uncreated_leaves : (g m i : ℕ) (a b c : Store) (j : PlainJob) → Opens g a b j.input (Ok i) → i ≡ g → (e : IoErr) → Creates m b c j.output (Err e) → Leaves a c j
+pub uncreated_leaves : (g m i : ℕ) (a b c : Store) (j : PlainJob) → Opens g a b j.input (Ok i) → i ≡ g → (e : IoErr) → Creates m b c j.output (Err e) → LeavesOutput a c j
 uncreated_leaves g m i a b c j o ii io.Failed f =
     let first = (opened g g i a b j.input (omega arith) o).clean in
-    kept a c j (λ n. f.err n ∙ o.bytes n) (first.entries ++ Create j.output None ∷ [])
+    kept a c (λ n. f.err n ∙ o.bytes n) (plain_job j) (first.entries ++ Create j.output None ∷ [])
     (f.calls ∙ ap (λ (es : List FileCall). es ++ Create j.output None ∷ []) first.calls ∙ append_assoc a.calls first.entries (Create j.output None ∷ []))
     (creates-append first.entries (Create j.output None ∷ []) ∙ ap (λ (ns : List (List ℕ)). ns ++ []) (one_open first.entries j.input first.asked))
 uncreated_leaves g m i a b c j o ii io.Memory f =
     let first = (opened g g i a b j.input (omega arith) o).clean in
-    kept a c j (λ n. f.err n ∙ o.bytes n) (first.entries ++ [])
+    kept a c (λ n. f.err n ∙ o.bytes n) (plain_job j) (first.entries ++ [])
     (f.calls ∙ ap (λ (es : List FileCall). es ++ []) first.calls ∙ append_assoc a.calls first.entries [])
     (creates-append first.entries [] ∙ ap (λ (ns : List (List ℕ)). ns ++ []) (one_open first.entries j.input first.asked))
 
 -- the entries of a job's journal
 entries_of : (g : ℕ) (old new : Store) (files : List JobFile) (made : List (Bool × List ℕ)) (s : Status) → Ends g old new files made s → (es : List FileCall) × (new.calls ≡ old.calls ++ es)
 entries_of g old new files made is.Ok e = (e.0.entries, e.0.calls)
+entries_of g old new files made is.OutFault e = (e.0.entries, e.0.calls)
 entries_of g old new files made is.Usage e = (e.entries, e.calls)
 entries_of g old new files made is.NotYetBuilt e = (e.entries, e.calls)
 entries_of g old new files made (is.Program r) e = (e.0.entries, e.0.calls)
@@ -100,7 +105,7 @@ entries_of g old new files made is.Memory (inr e) = (e.1.front ++ e.1.entry ∷ 
 
 -- the run leaves the names as it does behind the reading of the program
 module _ (g h : ℕ) (a b c : Store) (j : PlainJob) (keeps : KeepsBytes a b) (log : ReadLog g a b j.program) (files : List JobFile) (Before : ℕ → Type 0) (s : Status) (asks : Asks h b c files Before s) where
-  pub leaves_behind : Leaves b c j → Leaves a c j
+  pub leaves_behind : LeavesOutput b c j → LeavesOutput a c j
   leaves_behind l =
       let later = entries_of h b c files (map asking asks.made) s asks.ends in
       record {

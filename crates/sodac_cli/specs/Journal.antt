@@ -104,6 +104,7 @@ Ends given old new files made (is.FileFault role) = (n : ℕ) × Broken given ol
 Ends given old new files made is.Memory = Clean given old new made ⊎ ((n : ℕ) × Broken given old new made n)
 Ends given old new files made is.Ok = (c : Clean given old new made) × AreDone given files made c.entries
 Ends given old new files made (is.Program r) = (c : Clean given old new made) × IsJudged given files made c.entries r
+Ends given old new files made is.OutFault = (c : Clean given old new made) × AreDone given files made c.entries
 Ends given old new files made is.Usage = Clean given old new made
 Ends given old new files made is.NotYetBuilt = Clean given old new made
 

@@ -18,6 +18,7 @@ number_of is.Ok = 0
 number_of is.Usage = 2
 number_of (is.Program r) = 3
 number_of (is.FileFault role) = 5
+number_of is.OutFault = 6
 number_of is.Memory = 7
 number_of is.NotYetBuilt = 10
 
@@ -84,6 +85,7 @@ line_of is.Ok = []
 line_of is.Usage = codes "sodac: usage: sodac [--share] [--raw] [--trace] [--params FILE] [--stall FILE] MODE WORDS\n"
 line_of (is.Program r) = codes "sodac: program: " ++ (refusal_text r ++ codes "\n")
 line_of (is.FileFault role) = codes "sodac: file fault: " ++ (role_text role ++ codes "\n")
+line_of is.OutFault = codes "sodac: output fault\n"
 line_of is.Memory = codes "sodac: out of memory\n"
 line_of is.NotYetBuilt = codes "sodac: not yet built\n"
 
@@ -93,6 +95,7 @@ abbrev pub Reports : List ℕ → List ℕ → ℕ → ℕ → Status → Type 0
 Reports old new before now is.Memory = (status : Status) × (n : ℕ) × (new ≡ old ++ take n (line_of status))
 Reports old new before now is.Ok = new ≡ old
 Reports old new before now is.Usage = (new ≡ old ++ line_of is.Usage) ⊎ ((n : ℕ) × (new ≡ old ++ take n (line_of is.Usage)) × Rose before now)
+Reports old new before now is.OutFault = (new ≡ old ++ line_of is.OutFault) ⊎ ((n : ℕ) × (new ≡ old ++ take n (line_of is.OutFault)) × Rose before now)
 Reports old new before now is.NotYetBuilt = (new ≡ old ++ line_of is.NotYetBuilt) ⊎ ((n : ℕ) × (new ≡ old ++ take n (line_of is.NotYetBuilt)) × Rose before now)
 Reports old new before now (is.Program r) =
     (new ≡ old ++ line_of (is.Program r)) ⊎ ((n : ℕ) × (new ≡ old ++ take n (line_of (is.Program r))) × Rose before now)

@@ -1,18 +1,19 @@
-ghost use Rattle.std.specs.Prelude.{◌≡◌, ◌≢◌, ℕ, MatchOption};
+ghost use Rattle.std.specs.Prelude.{◌≢◌, MatchOption};
 ghost use Rattle.soda_ir.specs.Program.{plain};
 ghost use Rattle.soda_ir.specs.Sums.{IsSumProgram};
-ghost use Rattle.sodac_cli.specs.Job.{job_files, job_of};
-ghost use Rattle.sodac_cli.specs.Journal.{Asks};
-ghost use Rattle.sodac_cli.specs.Meaning.{Before, Faults, IsAfterWords, IsOnlyCause, KeepsLimits, Leaves, PassesLimit, Tells};
+ghost use Rattle.sodac_cli.specs.Answers.{Allows, Faults};
+ghost use Rattle.sodac_cli.specs.Job.{job_of, plain_job};
+ghost use Rattle.sodac_cli.specs.Meaning.{KeepsLimits, PassesLimit};
+ghost use Rattle.sodac_cli.specs.Stages.{Stops};
 
 use crate::Status;
-use crate::run::{MOST_TEXT, read_text, run};
+use crate::program::read_program;
+use crate::run::run;
 use job_parts::PlainWords;
-use soda_io::{FileRole, Files};
+use soda_io::Files;
 use soda_ir::{Program, is_sum_program};
-use soda_parse::{LimitKind, ParseFail, Refusal, parse};
+use soda_parse::{LimitKind, Refusal};
 use std::alloc::Global;
-use whole_files::ReadFail;
 
 /// The most cells of an array.
 const MOST_CELLS: u64 = 16_777_216;
@@ -39,23 +40,13 @@ fn passed_limit(program: &Program, rows: u64) -> Option<Refusal>
 /// Does a job of the mode `plain`.
 pub(crate) fn plain<F: Files>(alloc: Global, job: &PlainWords, files: &mut F) -> Status
     requires { job.now.output.now ≢ job.now.input.now }
-    ensures begun { IsAfterWords result }
-    ensures asks { F.tells → Asks (F.given files.old) (F.store files.old) (F.store files.new) (job_files (job_of job.now)) (Before (F.store files.old).bytes (job_of job.now)) result }
-    ensures leaves { F.tells → Leaves (F.store files.old) (F.store files.new) (job_of job.now) }
-    ensures tells { F.tells → Tells (F.store files.old).bytes (F.store files.new).bytes (job_of job.now) result }
-    ensures only { F.tells → IsOnlyCause (F.store files.old).bytes (job_of job.now) result }
+    ensures allows { Allows (plain_job (job_of job.now)) result }
+    ensures stops { F.tells → Stops (F.given files.old) (F.store files.old) (F.store files.new) (plain_job (job_of job.now)) result }
     ensures faults { Faults (F.faults files.old) (F.faults files.new) result }
 {
-    let text = match read_text(alloc, files, job.program) {
-        Ok(text) => text,
-        Err(ReadFail::TooLong) => return Status::Program(Refusal::TextTooLong),
-        Err(ReadFail::Failed) => return Status::FileFault(FileRole::Program),
-        Err(ReadFail::Memory) => return Status::Memory,
-    };
-    let program = match parse(alloc, &text, MOST_TEXT) {
+    let program = match read_program(alloc, files, job.program) {
         Ok(program) => program,
-        Err(ParseFail::Refused(refusal)) => return Status::Program(refusal),
-        Err(ParseFail::Memory) => return Status::Memory,
+        Err(status) => return status,
     };
     if !is_sum_program(&program) {
         return Status::NotYetBuilt;

@@ -40,6 +40,7 @@ fn line(alloc: Global, status: Status) -> Result<String, AllocError>
             let role = role_text(alloc, role)?;
             format!(in alloc; "sodac: file fault: {role}\n")
         }
+        Status::OutFault => String::from_str(alloc, "sodac: output fault\n"),
         Status::Memory => String::from_str(alloc, "sodac: out of memory\n"),
         Status::NotYetBuilt => String::from_str(alloc, "sodac: not yet built\n"),
     }

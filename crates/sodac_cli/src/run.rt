@@ -1,13 +1,11 @@
-ghost use Rattle.std.specs.Prelude.{◌≡◌, ◌≢◌, ◌+◌, ◌≤◌, List, ℤ, OnOk, IfOk, IfSome, IfNone, IsErrOf};
-ghost use Rattle.soda_io.specs.Cause.{Rose};
-ghost use Rattle.soda_io.specs.Store.{KeepsBytes};
+ghost use Rattle.std.specs.Prelude.{◌≡◌, ◌≢◌, ◌≤◌, List, ℤ, IfOk, IfSome, IfNone};
 ghost use Rattle.soda_ir.specs.Program.{IsArray, cells_at, plain};
 ghost use Rattle.soda_ir.specs.Sums.{IsSumProgram, uint8};
 ghost use Rattle.job_parts.specs.Cells.{AreCells};
-ghost use Rattle.sodac_cli.specs.Job.{array_files, job_files, job_of};
+ghost use Rattle.sodac_cli.specs.Answers.{Faults, IsBehindProgram};
+ghost use Rattle.sodac_cli.specs.Job.{array_files, job_of, plain_job};
 ghost use Rattle.sodac_cli.specs.Journal.{Asks};
-ghost use Rattle.sodac_cli.specs.Meaning.{IsTextOver, text_of, Faults, HasProgram, IsAfterProgram, Leaves, Tells, most_cells, most_text, most_total, total_at};
-ghost use Rattle.sodac_cli.specs.Stages.{TextBytes, TextLog};
+ghost use Rattle.sodac_cli.specs.Meaning.{HasProgram, IsTextOver, Leaves, Tells, most_cells, most_total, text_of, total_at};
 
 use crate::Status;
 use job_parts::{PlainWords, array_text, read_cells};
@@ -17,33 +15,8 @@ use sqlite_items::Items;
 use std::alloc::Global;
 use whole_files::{ReadFail, read_whole, write_whole};
 
-/// The most bytes of a program text.
-pub(crate) const MOST_TEXT: u32 = 1_048_576;
-
 /// The most bytes of a cell with its line feed.
 const MOST_CELL_BYTES: usize = 4;
-
-// Opens the program's file and reads it.
-pub(crate) fn read_text<F: Files>(
-    alloc: Global,
-    files: &mut F,
-    name: &str,
-) -> Result<Vec<u8>, ReadFail>
-    ensures given { OnOk result (F.given files.new ≡ F.given files.old + 1) }
-    ensures log { F.tells → TextLog (F.given files.old) (F.store files.old) (F.store files.new) name.now result }
-    ensures keeps { F.tells → KeepsBytes (F.store files.old) (F.store files.new) }
-    ensures bytes { F.tells → TextBytes (F.store files.old) name.now result }
-    ensures later { F.faults files.old ≤ F.faults files.new }
-    ensures kept { OnOk result (F.faults files.new ≡ F.faults files.old) }
-    ensures kept_too_long { IsErrOf result ReadFail.TooLong → F.faults files.new ≡ F.faults files.old }
-    ensures failed { IsErrOf result ReadFail.Failed → Rose (F.faults files.old) (F.faults files.new) }
-{
-    match files.open(name) {
-        Ok(id) => read_whole(alloc, files, id, MOST_TEXT as usize),
-        Err(IoErr::Failed) => Err(ReadFail::Failed),
-        Err(IoErr::Memory) => Err(ReadFail::Memory),
-    }
-}
 
 // The bytes of the output's array over an input's cells.
 fn output_text(
@@ -90,11 +63,11 @@ pub(crate) fn run<F: Files>(
     requires sums { IsSumProgram (plain program.now) }
     requires small { cells_at (plain program.now) job.now.rows ≤ most_cells }
     requires few { total_at (plain program.now) job.now.rows ≤ most_total }
-    requires program { F.tells → HasProgram (F.store files.old).bytes (job_of job.now) (plain program.now) }
-    ensures begun { IsAfterProgram result }
+    requires program { F.tells → HasProgram (F.store files.old).bytes (plain_job (job_of job.now)) (plain program.now) }
+    ensures begun { IsBehindProgram result }
     ensures asks { F.tells → Asks (F.given files.old) (F.store files.old) (F.store files.new) (array_files job.now.input.now job.now.output.now) (λ k. Unit {0}) result }
-    ensures leaves { F.tells → Leaves (F.store files.old) (F.store files.new) (job_of job.now) }
-    ensures tells { F.tells → Tells (F.store files.old).bytes (F.store files.new).bytes (job_of job.now) result }
+    ensures leaves { F.tells → Leaves (F.store files.old) (F.store files.new) (plain_job (job_of job.now)) }
+    ensures tells { F.tells → Tells (F.store files.old).bytes (F.store files.new).bytes (plain_job (job_of job.now)) result }
     ensures faults { Faults (F.faults files.old) (F.faults files.new) result }
 {
     let input = match files.open(job.input) {

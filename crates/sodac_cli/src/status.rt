@@ -15,6 +15,8 @@ pub enum Status {
     Program(Refusal),
     /// A call on the file of this role failed.
     FileFault(FileRole),
+    /// A call on the standard output failed.
+    OutFault,
     /// Want of memory.
     Memory,
     /// The mode, the program or the input asks for what isn't built yet.
@@ -31,6 +33,7 @@ impl Status {
             Status::Usage => 2,
             Status::Program(_) => 3,
             Status::FileFault(_) => 5,
+            Status::OutFault => 6,
             Status::Memory => 7,
             Status::NotYetBuilt => 10,
         }

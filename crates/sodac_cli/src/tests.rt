@@ -1,4 +1,5 @@
 use super::*;
+use crate::narrow::Narrow;
 use soda_io::{FileCall, FileRole, Files, MemFiles, MemSink};
 use soda_parse::{LimitKind, Need, Refusal};
 use std::alloc::{AllocError, Global};
@@ -11,6 +12,13 @@ const SUM3: &[u8] =
 const CELLS: &[u8] = b"1\n2\n4\n8\n16\n";
 
 const SUMS: &[u8] = b"0\n7\n14\n28\n0\n";
+
+const AVG: &[u8] =
+    b"kernel: avg\nburst width: 8\nunroll factor: 1\ninput uint8: a(*)\noutput uint8: o(0) = (a(-1) + a(0) + a(1)) / 3\n";
+
+// The canonical text of `AVG`.
+const PRINTED: &[u8] =
+    b"kernel: avg\nburst width: 8\nunroll factor: 1\niterate: 1\nborder: ignore\ninput uint8: a(*)\noutput uint8: o(0) = (a(-1) + a(0) + a(1)) / 3\n";
 
 // The words of a line, which stand between single blanks.
 fn words(alloc: Global, line: &str) -> Result<Vec<String>, AllocError> {
@@ -29,6 +37,20 @@ fn files(alloc: Global, program: &[u8], cells: &[u8], fails: &[u64]) -> Result<M
     Ok(files)
 }
 
+// The kinds of the calls on the files, one letter each.
+fn kinds_of_calls(alloc: Global, files: &MemFiles) -> Result<String, AllocError> {
+    let mut kinds = String::new(alloc);
+    for call in files.journal() {
+        kinds.push(match call {
+            FileCall::Open { .. } => 'o',
+            FileCall::Create { .. } => 'c',
+            FileCall::Read { .. } => 'r',
+            FileCall::Write { .. } => 'w',
+        })?;
+    }
+    Ok(kinds)
+}
+
 #[test]
 fn sums_three_cells(rt: HostRuntime) -> Result<(), Fail> {
     let alloc = rt.alloc();
@@ -44,16 +66,78 @@ fn sums_three_cells(rt: HostRuntime) -> Result<(), Fail> {
     assert_eq!(rt; out.bytes(), b"".as_slice());
     assert_eq!(rt; err.bytes(), b"".as_slice());
     // The program and the input are read to their ends, and the output is created before the input is read.
-    let mut kinds = String::new(alloc);
-    for call in files.journal() {
-        kinds.push(match call {
-            FileCall::Open { .. } => 'o',
-            FileCall::Create { .. } => 'c',
-            FileCall::Read { .. } => 'r',
-            FileCall::Write { .. } => 'w',
-        })?;
+    assert_eq!(rt; kinds_of_calls(alloc, &files)?.as_str(), "orrocrrw");
+    Ok(())
+}
+
+#[test]
+fn checks_a_program(rt: HostRuntime) -> Result<(), Fail> {
+    let alloc = rt.alloc();
+    let mut files = files(alloc, AVG, CELLS, &[])?;
+    let mut out = MemSink::new(alloc, &[])?;
+    let mut err = MemSink::new(alloc, &[])?;
+    let words = words(alloc, "sodac check p")?;
+    assert_eq!(rt;
+        execute(alloc, &words, &mut files, &mut out, &mut err),
+        Status::Ok
+    );
+    assert_eq!(rt; out.bytes(), PRINTED);
+    assert_eq!(rt; err.bytes(), b"".as_slice());
+    // The program is read to its end, and nothing else is asked.
+    assert_eq!(rt; kinds_of_calls(alloc, &files)?.as_str(), "orr");
+    Ok(())
+}
+
+#[test]
+fn each_call_of_a_check_fails_in_turn(rt: HostRuntime) -> Result<(), Fail> {
+    let alloc = rt.alloc();
+    let words = words(alloc, "sodac check p")?;
+    for number in 0..3 {
+        let mut files = files(alloc, AVG, CELLS, &[number])?;
+        let mut out = MemSink::new(alloc, &[])?;
+        let mut err = MemSink::new(alloc, &[])?;
+        let status = execute(alloc, &words, &mut files, &mut out, &mut err);
+        assert_eq!(rt;
+            status,
+            Status::FileFault(FileRole::Program),
+            "at call {number}"
+        );
+        assert_eq!(rt; err.bytes(), b"sodac: file fault: program\n".as_slice());
+        assert_eq!(rt; out.bytes(), b"".as_slice());
     }
-    assert_eq!(rt; kinds.as_str(), "orrocrrw");
+    let mut files = files(alloc, AVG, CELLS, &[])?;
+    let mut out = MemSink::new(alloc, &[0])?;
+    let mut err = MemSink::new(alloc, &[])?;
+    let status = execute(alloc, &words, &mut files, &mut out, &mut err);
+    assert_eq!(rt; status, Status::OutFault);
+    assert_eq!(rt; status.number(), 6);
+    assert_eq!(rt; err.bytes(), b"sodac: output fault\n".as_slice());
+    assert_eq!(rt; out.bytes(), b"".as_slice());
+    Ok(())
+}
+
+#[test]
+fn a_sink_fails_in_the_middle(rt: HostRuntime) -> Result<(), Fail> {
+    let alloc = rt.alloc();
+    let words = words(alloc, "sodac check p")?;
+    let rows = [
+        (0, Status::OutFault, b"".as_slice()),
+        (1, Status::OutFault, b"kernel: av".as_slice()),
+        (
+            3,
+            Status::OutFault,
+            b"kernel: avg\nburst width: 8\nunr".as_slice(),
+        ),
+        (1000, Status::Ok, PRINTED),
+    ];
+    for (writes, want, taken) in rows {
+        let mut files = files(alloc, AVG, CELLS, &[])?;
+        let mut out = Narrow::new(alloc, writes);
+        let mut err = MemSink::new(alloc, &[])?;
+        let status = execute(alloc, &words, &mut files, &mut out, &mut err);
+        assert_eq!(rt; status, want, "after {writes} writes");
+        assert_eq!(rt; out.bytes(), taken, "after {writes} writes");
+    }
     Ok(())
 }
 
@@ -103,15 +187,16 @@ fn expect_refusal(
     Ok(())
 }
 
-// This program is answered by this status, and by this line, and no file is created.
+// Over this program the words are answered by this status, and by this line; no file is created, and nothing printed.
 fn expect_of_program(
     rt: &impl Abort,
     alloc: Global,
+    line: &str,
     program: &[u8],
     status: Status,
     message: &str,
 ) -> Result<(), Fail> {
-    let words = words(alloc, "sodac plain p 5 i o")?;
+    let words = words(alloc, line)?;
     let mut files = files(alloc, program, CELLS, &[])?;
     let mut out = MemSink::new(alloc, &[])?;
     let mut err = MemSink::new(alloc, &[])?;
@@ -119,8 +204,13 @@ fn expect_of_program(
     assert_eq!(rt; found, status, "at {message}");
     assert_eq!(rt; err.bytes(), message.as_bytes(), "at {message}");
     assert_eq!(rt; files.bytes_of("o"), None, "at {message}");
+    assert_eq!(rt; out.bytes(), b"".as_slice(), "at {message}");
     Ok(())
 }
+
+const PLAIN: &str = "sodac plain p 5 i o";
+
+const CHECK: &str = "sodac check p";
 
 // The settings of the programs below.
 const SETTINGS: &str = "kernel: k\nburst width: 8\nunroll factor: 1\n";
@@ -183,7 +273,7 @@ fn refused_settings() -> [(&'static str, Refusal, &'static str); 4] {
     ]
 }
 
-// A program of these two parts is refused so.
+// A program of these two parts is refused so, in both modes.
 fn expect_refused(
     rt: &impl Abort,
     alloc: Global,
@@ -194,13 +284,9 @@ fn expect_refused(
     let [front, back] = parts;
     let program = format!(in alloc; "{front}{back}")?;
     let line = format!(in alloc; "sodac: program: {message}\n")?;
-    expect_of_program(
-        rt,
-        alloc,
-        program.as_bytes(),
-        Status::Program(refusal),
-        &line,
-    )
+    let status = Status::Program(refusal);
+    expect_of_program(rt, alloc, PLAIN, program.as_bytes(), status, &line)?;
+    expect_of_program(rt, alloc, CHECK, program.as_bytes(), status, &line)
 }
 
 #[test]
@@ -219,15 +305,22 @@ fn refuses_a_long_program(rt: HostRuntime) -> Result<(), Fail> {
     let alloc = rt.alloc();
     let long = vec![in alloc; b' '; 1_048_577]?;
     let status = Status::Program(Refusal::TextTooLong);
-    expect_of_program(&rt, alloc, &long, status, "sodac: program: text too long\n")
+    let message = "sodac: program: text too long\n";
+    expect_of_program(&rt, alloc, PLAIN, &long, status, message)?;
+    expect_of_program(&rt, alloc, CHECK, &long, status, message)
 }
 
 #[test]
 fn a_program_that_is_no_sum(rt: HostRuntime) -> Result<(), Fail> {
-    let program =
-        b"kernel: avg\nburst width: 8\nunroll factor: 1\ninput uint8: a(*)\noutput uint8: o(0) = (a(-1) + a(0) + a(1)) / 3\n";
     let status = Status::NotYetBuilt;
-    expect_of_program(&rt, rt.alloc(), program, status, "sodac: not yet built\n")
+    expect_of_program(
+        &rt,
+        rt.alloc(),
+        PLAIN,
+        AVG,
+        status,
+        "sodac: not yet built\n",
+    )
 }
 
 #[test]
@@ -240,6 +333,8 @@ fn words_that_are_not_taken(rt: HostRuntime) -> Result<(), Fail> {
         "sodac plain p 05 i o",
         "sodac plain p 5 i",
         "sodac plane p 5 i o",
+        "sodac check",
+        "sodac check p i",
         "sodac",
     ];
     for line in lines {

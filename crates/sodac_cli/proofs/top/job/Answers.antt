@@ -1,30 +1,59 @@
-use Rattle.std.proofs.Common.{◌<◌, ◌^◌, subst, rules}
-use Rattle.sodac_cli.specs.Job.{PlainJob, job_files, job_of}
-use Rattle.sodac_cli.specs.Journal.{Asks}
-use Rattle.sodac_cli.specs.Meaning.{Before, IsOnlyCause, Leaves, Tells}
-use Rattle.sodac_cli.proofs.Asked.{same_job}
+use Rattle.std.proofs.Common.{◌<◌, ◌^◌, refl, subst, rules}
+use Rattle.sodac_cli.specs.Answers.{Allows}
+use Rattle.sodac_cli.specs.Job.{Job, check_job, job_of, plain_job}
+use Rattle.sodac_cli.specs.Printed.{Prints}
+use Rattle.sodac_cli.specs.Stages.{Stops}
+use Rattle.sodac_cli.proofs.Asked.{no_job, same_check, same_plain, words_of_job}
+use Rattle.sodac_cli.proofs.Printing.{plain_printed, silent_out_faults}
 use Rattle.sodac_cli.proofs.top.job.Goals as goal
 
-pub returns-in-Plain-clause-asks : goal.returns-in-Plain-clause-asks
-returns-in-Plain-clause-asks g c = λ j a told.
-    let small : c.in-Plain.words.rows < 2 ^ 64 = search rules in
-    let P : PlainJob → Type 0 = λ i. Asks (g.F.Files.given c.args.files.now) (g.F.Files.store c.args.files.now) (g.F.Files.store c.plain.new.files) (job_files i) (Before (g.F.Files.store c.args.files.now).bytes i) c.plain.result in
-    subst P (same_job c.args.words.now (job_of c.in-Plain.words) j small c.in-Plain.ensures.2 a) (c.plain.ensures.asks told)
+-- a mode that isn't built
+pub returns-in-Unbuilt-clause-allows : goal.returns-in-Unbuilt-clause-allows
+returns-in-Unbuilt-clause-allows g c = λ j a. absurd (no_job c.args.words.now j c.in-Unbuilt.ensures.1 c.in-Unbuilt.ensures.2 a)
 
-pub returns-in-Plain-clause-leaves : goal.returns-in-Plain-clause-leaves
-returns-in-Plain-clause-leaves g c = λ j a told.
-    let small : c.in-Plain.words.rows < 2 ^ 64 = search rules in
-    let P : PlainJob → Type 0 = λ i. Leaves (g.F.Files.store c.args.files.now) (g.F.Files.store c.plain.new.files) i in
-    subst P (same_job c.args.words.now (job_of c.in-Plain.words) j small c.in-Plain.ensures.2 a) (c.plain.ensures.leaves told)
+pub returns-in-Unbuilt-clause-stops : goal.returns-in-Unbuilt-clause-stops
+returns-in-Unbuilt-clause-stops g c = λ j a. absurd (no_job c.args.words.now j c.in-Unbuilt.ensures.1 c.in-Unbuilt.ensures.2 a)
 
-pub returns-in-Plain-clause-tells : goal.returns-in-Plain-clause-tells
-returns-in-Plain-clause-tells g c = λ j a told.
-    let small : c.in-Plain.words.rows < 2 ^ 64 = search rules in
-    let P : PlainJob → Type 0 = λ i. Tells (g.F.Files.store c.args.files.now).bytes (g.F.Files.store c.plain.new.files).bytes i c.plain.result in
-    subst P (same_job c.args.words.now (job_of c.in-Plain.words) j small c.in-Plain.ensures.2 a) (c.plain.ensures.tells told)
+-- `check`
+pub returns-in-Check-clause-words : goal.returns-in-Check-clause-words
+returns-in-Check-clause-words g c = words_of_job c.args.words.now (check_job c.in-Check.program.now) c.check.result c.in-Check.ensures.0 c.check.ensures.allows
 
-pub returns-in-Plain-clause-only : goal.returns-in-Plain-clause-only
-returns-in-Plain-clause-only g c = λ j a told.
+pub returns-in-Check-clause-allows : goal.returns-in-Check-clause-allows
+returns-in-Check-clause-allows g c = λ j a.
+    let P : Job → Type 0 = λ i. Allows i c.check.result in
+    subst P (same_check c.args.words.now c.in-Check.program.now j c.in-Check.ensures.1 c.in-Check.ensures.2 a) c.check.ensures.allows
+
+pub returns-in-Check-clause-stops : goal.returns-in-Check-clause-stops
+returns-in-Check-clause-stops g c = λ j a told.
+    let P : Job → Type 0 = λ i. Stops (g.F.Files.given c.args.files.now) (g.F.Files.store c.args.files.now) (g.F.Files.store c.check.new.files) i c.check.result in
+    subst P (same_check c.args.words.now c.in-Check.program.now j c.in-Check.ensures.1 c.in-Check.ensures.2 a) (c.check.ensures.stops told)
+
+pub returns-in-Check-clause-prints : goal.returns-in-Check-clause-prints
+returns-in-Check-clause-prints g c = λ j a told also.
+    let P : Job → Type 0 = λ i. Prints (g.F.Files.store c.args.files.now).bytes i (g.S.Sink.taken c.args.out.now) (g.S.Sink.taken c.check.new.out) c.check.result in
+    subst P (same_check c.args.words.now c.in-Check.program.now j c.in-Check.ensures.1 c.in-Check.ensures.2 a) (c.check.ensures.prints told also)
+
+-- `plain`
+pub returns-in-Plain-clause-words : goal.returns-in-Plain-clause-words
+returns-in-Plain-clause-words g c = words_of_job c.args.words.now (plain_job (job_of c.in-Plain.words)) c.plain.result c.in-Plain.ensures.0 c.plain.ensures.allows
+
+pub returns-in-Plain-clause-allows : goal.returns-in-Plain-clause-allows
+returns-in-Plain-clause-allows g c = λ j a.
     let small : c.in-Plain.words.rows < 2 ^ 64 = search rules in
-    let P : PlainJob → Type 0 = λ i. IsOnlyCause (g.F.Files.store c.args.files.now).bytes i c.plain.result in
-    subst P (same_job c.args.words.now (job_of c.in-Plain.words) j small c.in-Plain.ensures.2 a) (c.plain.ensures.only told)
+    let P : Job → Type 0 = λ i. Allows i c.plain.result in
+    subst P (same_plain c.args.words.now (job_of c.in-Plain.words) j small c.in-Plain.ensures.1 c.in-Plain.ensures.2 a) c.plain.ensures.allows
+
+pub returns-in-Plain-clause-stops : goal.returns-in-Plain-clause-stops
+returns-in-Plain-clause-stops g c = λ j a told.
+    let small : c.in-Plain.words.rows < 2 ^ 64 = search rules in
+    let P : Job → Type 0 = λ i. Stops (g.F.Files.given c.args.files.now) (g.F.Files.store c.args.files.now) (g.F.Files.store c.plain.new.files) i c.plain.result in
+    subst P (same_plain c.args.words.now (job_of c.in-Plain.words) j small c.in-Plain.ensures.1 c.in-Plain.ensures.2 a) (c.plain.ensures.stops told)
+
+pub returns-in-Plain-clause-prints : goal.returns-in-Plain-clause-prints
+returns-in-Plain-clause-prints g c = λ j a told also.
+    let small : c.in-Plain.words.rows < 2 ^ 64 = search rules in
+    let P : Job → Type 0 = λ i. Prints (g.F.Files.store c.args.files.now).bytes i (g.S.Sink.taken c.args.out.now) (g.S.Sink.taken c.args.out.now) c.plain.result in
+    subst P (same_plain c.args.words.now (job_of c.in-Plain.words) j small c.in-Plain.ensures.1 c.in-Plain.ensures.2 a) (plain_printed _ _ _ refl (job_of c.in-Plain.words) c.plain.result)
+
+pub returns-in-Plain-clause-out_faults : goal.returns-in-Plain-clause-out_faults
+returns-in-Plain-clause-out_faults g c = silent_out_faults _ (job_of c.in-Plain.words) c.plain.result c.plain.ensures.allows
