@@ -33,7 +33,7 @@ module _ (g : ℕ) (a b : Store) (files : List JobFile) where
 -- what was printed
 pub memory_printed : (h : Holding) (j : Job) (old new : List ℕ) (s : Status) → Prints h j old new s → Prints h j old new is.Memory
 memory_printed h j old new is.Ok t =
-    inr (λ q has. (length (printed j q), t q has ∙ ap (λ (xs : List ℕ). old ++ xs) (sym (take_all (length (printed j q)) (printed j q) (omega arith)))))
+    inr (t.0, t.1, length (printed j t.0), t.2 ∙ ap (λ (xs : List ℕ). old ++ xs) (sym (take_all (length (printed j t.0)) (printed j t.0) (omega arith))))
 memory_printed h j old new is.OutFault t = inr t
 memory_printed h j old new is.Memory t = t
 memory_printed h j old new is.Usage t = inl t

@@ -11,7 +11,7 @@ use Rattle.sodac_cli.specs.declared.status.Status.TheVariants as is
 use Rattle.sodac_cli.specs.Answers.{Allows, IsOfProgram, OutFaults}
 use Rattle.sodac_cli.specs.Job.{Job, PlainJob, check_job, job_files, plain_job}
 use Rattle.sodac_cli.specs.Journal.{AreDone, Asks, asking}
-use Rattle.sodac_cli.specs.Meaning.{Before, HasProgram, Holding, IsFine}
+use Rattle.sodac_cli.specs.Meaning.{Before, Holding, IsFine, Tells}
 use Rattle.sodac_cli.specs.Printed.{Prints, PrintsAll, PrintsFront, printed}
 use Rattle.sodac_cli.specs.Stages.{Goes, Stops}
 use Rattle.sodac_cli.proofs.Behind.{first_only}
@@ -44,12 +44,11 @@ module _ (g : ℕ) (a b : Store) (name : List ℕ) (p : PlainProgram) (w : Goes 
   -- what a sink took of the canonical text
   module _ (old new text : List ℕ) (is_text : text ≡ canonical p) where
     pub all_printed : (u : Unit {0}) → TakesFront old new text (Ok u) → PrintsAll a.bytes (check_job name) old new
-    all_printed u t = λ q has.
-        t.taken ∙ ap (λ (xs : List ℕ). old ++ xs) (take_all t.count text (omega (arith, t.all)) ∙ is_text ∙ ap canonical (sym (w.one q has)))
+    all_printed u t =
+        (p, w.program, t.taken ∙ ap (λ (xs : List ℕ). old ++ xs) (take_all t.count text (omega (arith, t.all)) ∙ is_text))
 
     pub front_printed : (r : Result (Unit {0}) IoErr) → TakesFront old new text r → PrintsFront a.bytes (check_job name) old new
-    front_printed r t = λ q has.
-        (t.count, t.taken ∙ ap (λ (xs : List ℕ). old ++ take t.count xs) (is_text ∙ ap canonical (sym (w.one q has))))
+    front_printed r t = (p, w.program, t.count, t.taken ∙ ap (λ (xs : List ℕ). old ++ take t.count xs) is_text)
 
 -- a job that took nothing
 module _ (h : Holding) (old new : List ℕ) (same : new ≡ old) where
@@ -62,14 +61,14 @@ module _ (h : Holding) (old new : List ℕ) (same : new ≡ old) where
   stopped_printed j (is.Program r) a = same
   stopped_printed j (is.FileFault role) a = same
 
-  pub plain_printed : (j : PlainJob) (s : Status) → Prints h (plain_job j) old new s
-  plain_printed j is.Ok = λ q has. same ∙ sym (append-nil old)
-  plain_printed j is.OutFault = λ q has. (0, same ∙ sym (append-nil old))
-  plain_printed j is.Memory = inl same
-  plain_printed j is.Usage = same
-  plain_printed j is.NotYetBuilt = same
-  plain_printed j (is.Program r) = same
-  plain_printed j (is.FileFault role) = same
+  pub plain_printed : (after : Holding) (j : PlainJob) (s : Status) → Allows (plain_job j) s → Tells h after (plain_job j) s → Prints h (plain_job j) old new s
+  plain_printed after j is.Ok a t = (t.0.begun.plain, t.0.begun.program, same ∙ sym (append-nil old))
+  plain_printed after j is.OutFault a t = absurd a
+  plain_printed after j is.Memory a t = inl same
+  plain_printed after j is.Usage a t = same
+  plain_printed after j is.NotYetBuilt a t = same
+  plain_printed after j (is.Program r) a t = same
+  plain_printed after j (is.FileFault role) a t = same
 
 -- a job that asked nothing of `out`
 pub stopped_out_faults : (n : ℕ) (s : Status) → IsOfProgram s → OutFaults n n s

@@ -12,13 +12,13 @@ abbrev pub printed : Job → PlainProgram → List ℕ
 printed (check_job program) p = canonical p
 printed (plain_job j) p = []
 
--- all lines of the program that the text stands for were taken
+-- the text stands for a program, and all lines that are printed for it were taken
 abbrev pub PrintsAll : Holding → Job → (old new : List ℕ) → Type 0
-PrintsAll s j old new = (p : PlainProgram) → HasProgram s j p → new ≡ old ++ printed j p
+PrintsAll s j old new = (p : PlainProgram) × HasProgram s j p × (new ≡ old ++ printed j p)
 
--- a front of them was taken
+-- the text stands for a program, and a front of those lines was taken
 abbrev pub PrintsFront : Holding → Job → (old new : List ℕ) → Type 0
-PrintsFront s j old new = (p : PlainProgram) → HasProgram s j p → (n : ℕ) × (new ≡ old ++ take n (printed j p))
+PrintsFront s j old new = (p : PlainProgram) × HasProgram s j p × (n : ℕ) × (new ≡ old ++ take n (printed j p))
 
 -- What `out` took: all the lines at Ok, a front of them at a fault of `out`, and nothing where a refusal or a fault
 -- stands before the printing. Want of memory may come before it or in the midst of it.
