@@ -1,5 +1,5 @@
 -- Want of memory in the place of a status.
-use Rattle.std.proofs.Common.{◌≡◌, ℕ, Bool, List, ◌++◌, map, length, sym, ap, ◌∙◌, arith, inl, inr}
+use Rattle.std.proofs.Common.{ℕ, Bool, List, ◌++◌, map, length, sym, ap, ◌∙◌, arith, inl, inr}
 use Rattle.std.proofs.lemmas.List.{take_all}
 use Rattle.soda_io.specs.Store.{Store}
 use Rattle.sodac_cli.specs.declared.status.Status.{Status}

@@ -1,5 +1,5 @@
 -- A job of `check` behind the reading of its program.
-use Rattle.std.proofs.Common.{◌≡◌, ℕ, true, List, [], ◌∷◌, ◌++◌, take, Result, Ok, refl, sym, ap, ◌∙◌, arith, inl, inr}
+use Rattle.std.proofs.Common.{◌≡◌, ℕ, true, List, [], ◌∷◌, ◌++◌, take, Result, Ok, refl, sym, ap, ◌∙◌, arith, inl}
 use Rattle.std.proofs.lemmas.List.{append-nil, take_all}
 use Rattle.soda_io.specs.declared.error.IoErr.{IoErr}
 use Rattle.soda_io.specs.Store.{Store}
@@ -10,9 +10,9 @@ use Rattle.sodac_cli.specs.declared.status.Status.{Status}
 use Rattle.sodac_cli.specs.declared.status.Status.TheVariants as is
 use Rattle.sodac_cli.specs.Answers.{Allows, IsOfProgram, OutFaults}
 use Rattle.sodac_cli.specs.Job.{Job, PlainJob, check_job, job_files, plain_job}
-use Rattle.sodac_cli.specs.Journal.{AreDone, Asks, asking}
-use Rattle.sodac_cli.specs.Meaning.{Before, Holding, IsFine, Tells}
-use Rattle.sodac_cli.specs.Printed.{Prints, PrintsAll, PrintsFront, printed}
+use Rattle.sodac_cli.specs.Journal.{AreDone}
+use Rattle.sodac_cli.specs.Meaning.{Holding, IsFine, Tells}
+use Rattle.sodac_cli.specs.Printed.{Prints, PrintsAll, PrintsFront}
 use Rattle.sodac_cli.specs.Stages.{Goes, Stops}
 use Rattle.sodac_cli.proofs.Behind.{first_only}
 use Rattle.sodac_cli.proofs.Causes.{accepted_only}
