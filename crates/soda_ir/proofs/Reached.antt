@@ -1,6 +1,6 @@
 -- What is reached in one round more, and in all.
-use Rattle.std.proofs.Common.{◌≡◌, ℕ, zero, suc, ◌+◌, ◌<◌, Bool, true, false, not, ◌&&◌, ◌||◌, List, length, slice_index_or, refl, sym, ◌∙◌, ap, arith, add-one, [], if◌then◌else◌, take, drop, ◌++◌}
-use Rattle.std.proofs.lemmas.Bool.{false≢true}
+use Rattle.std.proofs.Common.{◌≡◌, ℕ, zero, suc, ◌+◌, ◌<◌, Bool, true, false, not, ◌&&◌, ◌||◌, List, length, slice_index_or, refl, sym, ◌∙◌, ap, arith, add-one, [], if◌then◌else◌, take, drop, ◌++◌, ⊎_elim, ◌≤◌}
+use Rattle.std.proofs.lemmas.Bool.{cases_lt, false≢true}
 use Rattle.std.proofs.lemmas.Grind.{common_steps}
 use Rattle.soda_ir.specs.Counts.{count_below, is_reached, some_below, sum_below}
 
@@ -93,3 +93,23 @@ lent r n before before' marks marks' next e d m step y l =
 -- a list that is written back in place of one as long
 pub written_back : (m items : List Bool) (len : ℕ) → length m ≡ length items → len ≡ length items → take len (m ++ drop (length m) items) ≡ m
 written_back m items len h k = grind (arith, common_steps)
+
+-- after a round that reaches nothing more none does
+reached_still : (r : ℕ → ℕ → Bool) (n : ℕ) (w : ℕ → Bool) (k : ℕ) → ((y : ℕ) → y < n → is_reached r n w (k + 1) y ≡ is_reached r n w k y) → (m : ℕ) → k ≤ m → (y : ℕ) → y < n → is_reached r n w m y ≡ is_reached r n w k y
+reached_still r n w k h zero l y b =
+    let e : 0 ≡ k = omega arith in
+    ap (λ j. is_reached r n w j y) e
+reached_still r n w k h (suc m) l y b =
+    ⊎_elim (λ (i : m < k). let e : suc m ≡ k = omega arith in ap (λ j. is_reached r n w j y) e) (λ (i : k ≤ m). reached_step r n w m y
+    ∙ ap (λ c. c || some_below (λ z. is_reached r n w m z && r z y) n) (reached_still r n w k h m i y b)
+    ∙ ap (λ c. is_reached r n w k y || c) (some_below_same (λ z. is_reached r n w m z && r z y) (λ z. is_reached r n w k z && r z y) n (λ z d. ap (λ c. c && r z y) (reached_still r n w k h m i z d)))
+    ∙ sym (reached_step r n w k y)
+    ∙ sym (ap (λ j. is_reached r n w j y) (add-one k))
+    ∙ h y b) (cases_lt m k)
+
+-- a round that changes no mark is the last
+pub last_reached : (r : ℕ → ℕ → Bool) (n k : ℕ) (w : ℕ → Bool) (marks next : List Bool) → k ≤ n → next ≡ marks → ((y : ℕ) → y < n → slice_index_or marks y false ≡ is_reached r n w k y) → ((y : ℕ) → y < n → slice_index_or next y false ≡ is_reached r n w (k + 1) y) → (y : ℕ) → y < n → slice_index_or next y false ≡ is_reached r n w n y
+last_reached r n k w marks next l e was is y b =
+    ap (λ xs. slice_index_or xs y false) e
+    ∙ was y b
+    ∙ sym (reached_still r n w k (λ z d. sym (is z d) ∙ ap (λ xs. slice_index_or xs z false) e ∙ was z d) n l y b)

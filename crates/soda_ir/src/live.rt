@@ -60,6 +60,10 @@ fn reached(alloc: Global, graph: &[Items<Read>], wanted: &[bool]) -> Result<Vec<
     let mut marks = Vec::from_slice(alloc, wanted)?;
     for round in 0..graph.len() {
         let next = next_marks(alloc, graph, &before, &marks)?;
+        // A round that reaches nothing more is the last.
+        if next.as_slice() == marks.as_slice() {
+            return Ok(next);
+        }
         before = marks;
         marks = next;
     }
