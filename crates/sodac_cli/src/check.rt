@@ -1,4 +1,3 @@
-ghost use Rattle.std.specs.Prelude.{◌≡◌};
 ghost use Rattle.sodac_cli.specs.Answers.{Allows, Faults, OutFaults};
 ghost use Rattle.sodac_cli.specs.Job.{check_job};
 ghost use Rattle.sodac_cli.specs.Printed.{Prints};

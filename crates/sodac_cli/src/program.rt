@@ -5,7 +5,6 @@ ghost use Rattle.soda_io.specs.Store.{KeepsBytes};
 ghost use Rattle.soda_ir.specs.Program.{plain};
 ghost use Rattle.sodac_cli.specs.Answers.{Faults, IsOfProgram};
 ghost use Rattle.sodac_cli.specs.Job.{Job, program_of};
-ghost use Rattle.sodac_cli.specs.Meaning.{most_text};
 ghost use Rattle.sodac_cli.specs.Stages.{Goes, Stops, TextBytes, TextLog};
 
 use crate::Status;

@@ -1,4 +1,4 @@
-ghost use Rattle.std.specs.Prelude.{◌≡◌, ◌≢◌, ◌⊎◌, codes};
+ghost use Rattle.std.specs.Prelude.{◌≡◌, ◌⊎◌};
 ghost use Rattle.soda_io.specs.Cause.{Rose};
 ghost use Rattle.soda_parse.specs.declared.refusal.Refusal.{Refusal};
 ghost use Rattle.sodac_cli.specs.declared.status.Status.TheVariants as is;
@@ -6,7 +6,7 @@ ghost use Rattle.sodac_cli.specs.Answers.{Allows, CanFailToPrint, Faults, HasUnb
 ghost use Rattle.sodac_cli.specs.Job.{AsksFor, Job, job_files};
 ghost use Rattle.sodac_cli.specs.Journal.{Asks};
 ghost use Rattle.sodac_cli.specs.Lines.{Reports};
-ghost use Rattle.sodac_cli.specs.Meaning.{Before, IsFine, IsOnlyCause, IsRefusedJob, IsUnbuiltJob, Leaves, Tells};
+ghost use Rattle.sodac_cli.specs.Meaning.{Before, IsFine, IsRefusedJob, IsUnbuiltJob, Leaves, Tells};
 ghost use Rattle.sodac_cli.specs.Printed.{Prints};
 ghost use Rattle.sodac_cli.specs.Stages.{Stops};
 ghost use Rattle.job_parts.specs.Words.{TakesWords};
