@@ -53,7 +53,7 @@ pub returns-in-Plain-clause-prints : goal.returns-in-Plain-clause-prints
 returns-in-Plain-clause-prints g c = λ j a told also.
     let small : c.in-Plain.words.rows < 2 ^ 64 = search rules in
     let P : Job → Type 0 = λ i. Prints (g.F.Files.store c.args.files.now).bytes i (g.S.Sink.taken c.args.out.now) (g.S.Sink.taken c.args.out.now) c.plain.result in
-    subst P (same_plain c.args.words.now (job_of c.in-Plain.words) j small c.in-Plain.ensures.1 c.in-Plain.ensures.2 a) (plain_printed _ _ _ refl _ (job_of c.in-Plain.words) c.plain.result c.plain.ensures.allows (c.plain.ensures.stops told).tells)
+    subst P (same_plain c.args.words.now (job_of c.in-Plain.words) j small c.in-Plain.ensures.1 c.in-Plain.ensures.2 a) (plain_printed _ _ _ refl (g.F.Files.store c.plain.new.files).bytes (job_of c.in-Plain.words) c.plain.result c.plain.ensures.allows (c.plain.ensures.stops told).tells)
 
 pub returns-in-Plain-clause-out_faults : goal.returns-in-Plain-clause-out_faults
 returns-in-Plain-clause-out_faults g c = silent_out_faults _ (job_of c.in-Plain.words) c.plain.result c.plain.ensures.allows
