@@ -77,9 +77,9 @@ fn joined(alloc: Global, op: BinOp, a: Expr, b: Expr) -> Result<Expr, Fail> {
     Ok(Expr::Bin(op, a, Boxed::new(alloc, b)?))
 }
 
-// An operator of two numbers, the first of which is given.
-fn numbers(alloc: Global, op: BinOp, first: u64) -> Result<Expr, Fail> {
-    joined(alloc, op, Expr::Num(first), Expr::Num(first + 1))
+// An operator of two numbers.
+fn numbers(alloc: Global, op: BinOp, m: u64, n: u64) -> Result<Expr, Fail> {
+    joined(alloc, op, Expr::Num(m), Expr::Num(n))
 }
 
 // A choice between v[4] and a formula.
@@ -97,15 +97,15 @@ fn cast(alloc: Global, a: Expr) -> Result<Expr, Fail> {
 fn formula(alloc: Global, shape: Shape) -> Result<Expr, Fail> {
     match shape {
         Shape::Right(op, inner) => {
-            let right = numbers(alloc, inner, 2)?;
+            let right = numbers(alloc, inner, 2, 3)?;
             joined(alloc, op, cell(0, [0, 0]), right)
         }
         Shape::Left(op, inner) => {
-            let left = numbers(alloc, inner, 1)?;
+            let left = numbers(alloc, inner, 1, 2)?;
             joined(alloc, op, left, cell(0, [0, 0]))
         }
         Shape::Over(op, inner) => {
-            let a = numbers(alloc, inner, 1)?;
+            let a = numbers(alloc, inner, 1, 2)?;
             under(alloc, op, a)
         }
         Shape::Twice(op, inner) => {
@@ -118,11 +118,11 @@ fn formula(alloc: Global, shape: Shape) -> Result<Expr, Fail> {
             joined(alloc, op, a, b)
         }
         Shape::Chosen(inner) => {
-            let a = numbers(alloc, inner, 1)?;
+            let a = numbers(alloc, inner, 1, 2)?;
             chosen(alloc, a)
         }
         Shape::Cast(inner) => {
-            let a = numbers(alloc, inner, 1)?;
+            let a = numbers(alloc, inner, 1, 2)?;
             cast(alloc, a)
         }
         Shape::Choices(op) => {
