@@ -5,9 +5,10 @@ use Rattle.std.specs.Int.RustNames.{bit_and, bit_or, bit_xor}
 use Rattle.std.proofs.lemmas.Int.{ints}
 use Rattle.std.proofs.lemmas.Nat.{pow_pos, and_le_l, or_lt, xor_lt}
 use Rattle.std.proofs.lemmas.Nat.Bits.{bit_at_and, bit_at_or, bit_at_xor}
-use Rattle.int_types.specs.IntType.{IntType, IsType, IsWrapOf, wrapped}
+use Rattle.soda_words.specs.IntType.{IntType, IsType}
+use Rattle.int_types.specs.Ranges.{IsWrapOf, wrapped}
 use Rattle.int_types.specs.Operators.{word, bit, operated}
-use Rattle.int_types.specs.declared.operators.BinOp.TheVariants.{BitOr, BitXor, BitAnd}
+use Rattle.soda_words.specs.declared.operators.BinOp.TheVariants.{BitOr, BitXor, BitAnd}
 use Rattle.int_types.proofs.Place.{rem_of, rem_from, rem_below_size}
 use Rattle.int_types.proofs.Wrapped.{wrapped_wraps}
 

@@ -4,7 +4,8 @@ use Rattle.std.specs.Int.RustNames.{int_div, int_rem, bit_or, bit_xor}
 use Rattle.std.proofs.lemmas.Int.{ints, quot-rem}
 use Rattle.std.proofs.lemmas.Nat.{or_lt, xor_lt}
 use Rattle.std.proofs.Math.Nat.{pow-le-pow_right, mod-le, div-le_self}
-use Rattle.int_types.specs.IntType.{IntType, IsType, least, InRange}
+use Rattle.soda_words.specs.IntType.{IntType, IsType}
+use Rattle.int_types.specs.Ranges.{least, InRange}
 
 pub or_of_64 : (a b : ℕ) → a < 2 ^ 64 → b < 2 ^ 64 → bit_or a b < 2 ^ 64
 or_of_64 a b p q = or_lt 64 a b p q

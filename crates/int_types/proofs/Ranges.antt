@@ -3,12 +3,13 @@ use Rattle.std.proofs.Common.{Bool, true, false, if◌then◌else◌, nat_lt, �
 use Rattle.std.specs.Int.RustNames.{int_div, int_rem, int_lt, int_le}
 use Rattle.std.specs.Ordering.{int_eq}
 use Rattle.std.proofs.lemmas.Int.{ints}
-use Rattle.int_types.specs.IntType.{IntType, IsType, least, past, InRange, wrapped}
-use Rattle.int_types.specs.Operators.{int32, promoted, wider, common_of, truth, holds, result_of, operated, unary_type, unary_value, binary_type, binary_value, select_value}
-use Rattle.int_types.specs.declared.operators.UnOp.{UnOp}
-use Rattle.int_types.specs.declared.operators.UnOp.TheVariants.{Plus, Minus, Flip, Not, Abs}
-use Rattle.int_types.specs.declared.operators.BinOp.{BinOp}
-use Rattle.int_types.specs.declared.operators.BinOp.TheVariants.{LogOr, LogAnd, BitOr, BitXor, BitAnd, Eq, Ne, Lt, Le, Gt, Ge, Add, Sub, Mul, Div, Rem, Min, Max}
+use Rattle.soda_words.specs.IntType.{IntType, IsType, int32}
+use Rattle.int_types.specs.Ranges.{least, past, InRange, wrapped}
+use Rattle.int_types.specs.Operators.{promoted, wider, common_of, truth, holds, result_of, operated, unary_type, unary_value, binary_type, binary_value, select_value}
+use Rattle.soda_words.specs.declared.operators.UnOp.{UnOp}
+use Rattle.soda_words.specs.declared.operators.UnOp.TheVariants.{Plus, Minus, Flip, Not, Abs}
+use Rattle.soda_words.specs.declared.operators.BinOp.{BinOp}
+use Rattle.soda_words.specs.declared.operators.BinOp.TheVariants.{LogOr, LogAnd, BitOr, BitXor, BitAnd, Eq, Ne, Lt, Le, Gt, Ge, Add, Sub, Mul, Div, Rem, Min, Max}
 use Rattle.int_types.proofs.Bounds.{rem_low, rem_high, rest_is}
 use Rattle.int_types.proofs.Wrapped.{wrapped_wraps, zero_in_range}
 

@@ -4,7 +4,8 @@ use Rattle.std.specs.Int.{int_rem_euclid}
 use Rattle.std.proofs.lemmas.Int.{ints}
 use Rattle.std.proofs.lemmas.Nat.{pow_pos, mod_below}
 use Rattle.std.proofs.Math.Nat.{pow-suc, pow-le-pow_right}
-use Rattle.int_types.specs.IntType.{IntType, IsType, least, past, InRange, IsWrapOf, wrapped}
+use Rattle.soda_words.specs.IntType.{IntType, IsType}
+use Rattle.int_types.specs.Ranges.{least, past, InRange, IsWrapOf, wrapped}
 use Rattle.int_types.proofs.Place.{multiple, place_is, rem_apart, back_apart, rem_from, rem_below_size}
 
 -- a power is twice the one before it

@@ -1,9 +1,10 @@
 -- The laws of the number rules.
 use Rattle.std.specs.Prelude.{◌≡◌, ◌≢◌, ℕ, ◌≤◌, ◌<◌, ℤ, pos, ◌-ℤ◌, ◌*ℤ◌, unsigned_abs, int_div}
-use Rattle.int_types.specs.IntType.{IntType, IsType, InRange, IsWrapOf, wrapped}
+use Rattle.soda_words.specs.IntType.{IntType, IsType}
+use Rattle.int_types.specs.Ranges.{InRange, IsWrapOf, wrapped}
 use Rattle.int_types.specs.Operators.{bit, operated, unary_type, unary_value, binary_type, binary_value, common_of, select_value}
-use Rattle.int_types.specs.declared.operators.UnOp.{UnOp}
-use Rattle.int_types.specs.declared.operators.BinOp.{BinOp}
+use Rattle.soda_words.specs.declared.operators.UnOp.{UnOp}
+use Rattle.soda_words.specs.declared.operators.BinOp.{BinOp}
 
 -- `wrapped` is a wrap
 abbrev pub WrapIsThere : Type 0

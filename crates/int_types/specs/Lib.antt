@@ -1,3 +1,3 @@
-pub mod IntType
+pub mod Ranges
 pub mod Laws
 pub mod Operators

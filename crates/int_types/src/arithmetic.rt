@@ -1,9 +1,10 @@
 ghost use Rattle.std.specs.Prelude.{◌≤◌, ◌-◌, ◌*◌, ◌^◌, true, false, ◌≡◌, ℤ, ◌+ℤ◌, ◌-ℤ◌, ◌*ℤ◌, ◌≢◌, pos, int_div};
-ghost use Rattle.int_types.specs.IntType.{IntType, InRange, IsWrapOf, wrapped};
+ghost use Rattle.soda_words.specs.IntType.{IntType};
+ghost use Rattle.int_types.specs.Ranges.{InRange, IsWrapOf, wrapped};
 ghost use Rattle.int_types.specs.Operators.{quotient, remainder};
 
 use crate::range::{size, wrap};
-use crate::ty::Ty;
+use soda_words::Ty;
 
 // The sum of two numbers of one type, not wrapped.
 pub(crate) fn sum(ty: Ty, x: i128, y: i128) -> i128

@@ -1,9 +1,9 @@
 ghost use Rattle.std.specs.Prelude.{◌≡◌, ◌<◌, ◌^◌, pos};
-ghost use Rattle.int_types.specs.IntType.{InRange, wrapped};
+ghost use Rattle.int_types.specs.Ranges.{InRange, wrapped};
 ghost use Rattle.int_types.specs.Operators.{word};
 
 use crate::range::{size, wrap};
-use crate::ty::Ty;
+use soda_words::Ty;
 
 // The two's complement of the type's width.
 pub(crate) fn word(ty: Ty, v: i128) -> u128

@@ -1,5 +1,5 @@
 ghost use Rattle.std.specs.Prelude.{◌+◌, ◌%◌, min, max, ℕ};
-ghost use Rattle.int_types.specs.declared.operators.BinOp.TheVariants.{BitOr, BitXor, BitAnd};
+ghost use Rattle.soda_words.specs.declared.operators.BinOp.TheVariants.{BitOr, BitXor, BitAnd};
 ghost use Rattle.int_types.specs.Laws.{WrapIsThere, WrapIsOne, WrapKeepsRange, IsBitByBit, QuotientIsTruncated, UnaryIsInRange, BinaryIsInRange, SelectIsInRange};
 
 /// There is exactly one number of a type's range that differs from a given number by a multiple of the type's size, and a

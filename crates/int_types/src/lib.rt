@@ -9,14 +9,15 @@ mod arithmetic;
 mod bits;
 mod laws;
 mod operators;
+mod promotion;
 mod range;
 #[cfg(test)]
 mod tests;
-mod ty;
 
 pub use laws::{
     bitwise_is_bit_by_bit, quotient_is_truncated, results_are_in_range, wrap_is_unique,
 };
-pub use operators::{BinOp, UnOp, binary, select, unary};
+pub use operators::{binary, select, unary};
+pub use promotion::{common, literal_type, promote};
 pub use range::{in_range, wrap};
-pub use ty::{Ty, cell_bytes, common, int32, literal_type, promote};
+pub use soda_words::{BinOp, Ty, UnOp, cell_bytes, int32};

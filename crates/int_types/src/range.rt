@@ -1,7 +1,8 @@
 ghost use Rattle.std.specs.Prelude.{◌≡◌, ◌↔◌, IsTrue, ℤ, pos, ◌^◌};
-ghost use Rattle.int_types.specs.IntType.{IntType, IsType, least, past, InRange, IsWrapOf, wrapped};
+ghost use Rattle.soda_words.specs.IntType.{IntType, IsType};
+ghost use Rattle.int_types.specs.Ranges.{least, past, InRange, IsWrapOf, wrapped};
 
-use crate::ty::Ty;
+use soda_words::Ty;
 
 // The least number of the type.
 fn least(ty: Ty) -> i128

@@ -7,7 +7,7 @@ use Rattle.std.proofs.lemmas.Int.{ints}
 use Rattle.std.proofs.lemmas.List.{append-nil}
 use Rattle.std.proofs.lemmas.List.Elements.{All-cons, All-head, All-nil, All-tail}
 use borrow.Author.Tests.{leb-true, le-leb}
-use Rattle.int_types.specs.IntType.{InRange}
+use Rattle.int_types.specs.Ranges.{InRange}
 use Rattle.soda_words.specs.Names.{behind}
 use Rattle.soda_ir.specs.Sums.{uint8}
 use Rattle.job_parts.specs.Cells.{AreCells, all_cells_at, cell_line_at, cell_lines_at, parting, text_from}

@@ -4,8 +4,8 @@ use Rattle.std.proofs.Math.ListN.{drop_of_length-le}
 use Rattle.std.proofs.lemmas.List.{drop_more}
 use Rattle.soda_checks.specs.Outline.{empty, joined, outline_in, outline_of}
 use Rattle.soda_checks.specs.declared.outline.Outline.{Outline}
-use Rattle.soda_syntax.specs.Statements.{plain_statement}
-use Rattle.soda_syntax.specs.declared.statement.Statement.{Statement}
+use Rattle.soda_formula.specs.Statements.{plain_statement}
+use Rattle.soda_formula.specs.declared.statement.Statement.{Statement}
 
 -- the first statements are in the outline
 pub record IsOutlined (outline : Outline) (index : ℕ) (statements : List Statement) : Type 0 where

@@ -12,11 +12,11 @@ use Rattle.soda_checks.specs.declared.outline.Site.{Site}
 use Rattle.soda_checks.specs.declared.outline.Site.TheVariants.{Size as SiteSize, Left, Cell, Value}
 use Rattle.soda_checks.specs.declared.need.Need.{Need}
 use Rattle.soda_checks.specs.declared.need.Need.TheVariants.{Kernel as NeedKernel, BurstWidth as NeedWidth, UnrollFactor as NeedFactor, Input as NeedInput, Output as NeedOutput}
-use Rattle.soda_syntax.specs.declared.statement.Extent.{Extent}
-use Rattle.soda_syntax.specs.declared.statement.Extent.TheVariants.{Fixed, Open}
-use Rattle.soda_syntax.specs.declared.statement.InputLine.{InputLine}
-use Rattle.soda_syntax.specs.declared.statement.ParamLine.{ParamLine}
-use Rattle.soda_syntax.specs.declared.statement.Size.{Size}
+use Rattle.soda_formula.specs.declared.statement.Extent.{Extent}
+use Rattle.soda_formula.specs.declared.statement.Extent.TheVariants.{Fixed, Open}
+use Rattle.soda_formula.specs.declared.statement.InputLine.{InputLine}
+use Rattle.soda_formula.specs.declared.statement.ParamLine.{ParamLine}
+use Rattle.soda_formula.specs.declared.statement.Size.{Size}
 use Rattle.soda_words.specs.Names.{is_reserved}
 use Rattle.soda_words.specs.Tokens.{or_else}
 use Rattle.soda_words.specs.declared.token.Word.{Word}

@@ -8,9 +8,9 @@ use Rattle.soda_checks.specs.declared.outline.SettingKind.{SettingKind}
 use Rattle.soda_checks.specs.declared.outline.Site.{Site}
 use Rattle.soda_checks.specs.declared.outline.Site.TheVariants.{Size as SiteSize, Left, Cell, Value}
 use Rattle.soda_checks.specs.declared.outline.SettingKind.TheVariants.{Kernel, BurstWidth, UnrollFactor, Iterate, Border, Cluster}
-use Rattle.soda_syntax.specs.Statements.{PlainStatement, PlainFormulaLine, kernel, burst_width, unroll_factor, iterate, border, cluster, param, input, local, output}
-use Rattle.soda_syntax.specs.declared.statement.InputLine.{InputLine}
-use Rattle.soda_syntax.specs.declared.statement.ParamLine.{ParamLine}
+use Rattle.soda_formula.specs.Statements.{PlainStatement, PlainFormulaLine, kernel, burst_width, unroll_factor, iterate, border, cluster, param, input, local, output}
+use Rattle.soda_formula.specs.declared.statement.InputLine.{InputLine}
+use Rattle.soda_formula.specs.declared.statement.ParamLine.{ParamLine}
 use Rattle.soda_words.specs.Names.{is_word}
 use Rattle.soda_words.specs.declared.token.Word.{Word}
 

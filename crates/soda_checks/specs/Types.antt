@@ -1,7 +1,7 @@
 -- The integer types that words stand for.
 use Rattle.std.specs.Prelude.{ℕ, ◌&&◌, Bool, true, false, nat_le, List, ◌∷◌, [], codes, Option, Some, None, is_some, option_map, if◌then◌else◌}
 use Rattle.std.specs.List.{list_any}
-use Rattle.int_types.specs.IntType.{IntType}
+use Rattle.soda_words.specs.IntType.{IntType}
 use Rattle.soda_words.specs.Names.{behind}
 use Rattle.soda_words.specs.Tokens.{is_number, or_else, value_behind}
 

@@ -2,11 +2,10 @@ ghost use Rattle.std.specs.Prelude.{◌≡◌, ◌++◌, ◌∷◌, [], IfOk, On
 ghost use Rattle.soda_checks.specs.Outline.{casts_in, defined_alone, empty, input_alone, joined, outline_in, outline_of, param_alone, setting_alone, uses_in};
 ghost use Rattle.soda_checks.specs.declared.outline.Site.TheVariants.{Size as SiteSize};
 ghost use Rattle.soda_formula.specs.Tree.{term_of};
-ghost use Rattle.soda_syntax.specs.Statements.{plain_line, plain_statement};
+ghost use Rattle.soda_formula.specs.Statements.{plain_line, plain_statement};
 
 use crate::{Defined, NoMemory, Outline, Setting, SettingKind, Site};
-use soda_formula::Written;
-use soda_syntax::{Extent, FormulaLine, InputLine, ParamLine, Size, Statement};
+use soda_formula::{Written, Extent, FormulaLine, InputLine, ParamLine, Size, Statement};
 use soda_words::Word;
 use sqlite_items::Items;
 use std::alloc::Global;

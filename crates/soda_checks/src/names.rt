@@ -5,7 +5,7 @@ ghost use Rattle.soda_checks.specs.Outline.{is_one_of};
 ghost use Rattle.soda_words.specs.Names.{is_word};
 
 use crate::{Defined, NoMemory, Outline};
-use soda_syntax::{InputLine, ParamLine};
+use soda_formula::{InputLine, ParamLine};
 use soda_words::{NameTable, Word};
 use std::alloc::Global;
 

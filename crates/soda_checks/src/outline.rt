@@ -1,8 +1,8 @@
 ghost use Rattle.std.specs.Prelude.{◌≡◌, IfOk, OnOk, map};
 ghost use Rattle.soda_checks.specs.Outline.{joined, outline_in, outline_of};
-ghost use Rattle.soda_syntax.specs.Statements.{plain_statement};
+ghost use Rattle.soda_formula.specs.Statements.{plain_statement};
 
-use soda_syntax::{InputLine, ParamLine, Size};
+use soda_formula::{InputLine, ParamLine, Size};
 use soda_words::Word;
 use sqlite_items::Items;
 

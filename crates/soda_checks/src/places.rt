@@ -7,7 +7,7 @@ ghost use Rattle.soda_checks.specs.Conditions.{are_below, first_tile, has_wrong_
 use crate::conditions::site_line;
 use crate::names::is_listed;
 use crate::{Names, Outline, Site};
-use soda_syntax::{Extent, InputLine, ParamLine, Size};
+use soda_formula::{Extent, InputLine, ParamLine, Size};
 use soda_words::Word;
 use sqlite_items::Items;
 

@@ -1,8 +1,7 @@
 ghost use Rattle.std.specs.Prelude.{◌≡◌, true, false, option_map, Option, List, ℕ, ◌≤◌, ◌^◌, pos};
 ghost use Rattle.soda_checks.specs.Types.{is_float, type_behind, type_of, width_of};
 
-use int_types::Ty;
-use soda_words::{behind, number};
+use soda_words::{Ty, behind, number};
 
 /// Whether a word begins with the word of a float type: `float`, `half` or `double`.
 pub fn is_float(word: &[u8]) -> bool

@@ -1,6 +1,6 @@
 -- The machine reads each formula.
 use Rattle.std.proofs.Common.{◌≡◌, ℕ, suc, ◌≤◌, ◌<◌, nat_le, true, false, List, [], ◌∷◌, ◌++◌, length, Option, Some, None, ℤ, refl, ◌∙◌, ap, arith, append_assoc}
-use Rattle.int_types.specs.declared.operators.UnOp.TheVariants.{Abs}
+use Rattle.soda_words.specs.declared.operators.UnOp.TheVariants.{Abs}
 use Rattle.soda_words.specs.declared.symbol.Symbol.{Symbol}
 use Rattle.soda_words.specs.declared.symbol.Symbol.TheVariants.{OpenRound, CloseRound, Comma}
 use Rattle.soda_words.specs.declared.token.Placed.{Placed}

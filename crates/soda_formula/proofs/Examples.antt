@@ -1,7 +1,7 @@
 -- The definitions at small formulas.
 use Rattle.std.proofs.Common.{◌≡◌, List, [], ◌∷◌, ◌++◌, codes, ℤ, pos, neg_ℤ, refl}
-use Rattle.int_types.specs.declared.operators.BinOp.TheVariants.{Add, Sub, Mul, Div}
-use Rattle.int_types.specs.declared.operators.UnOp.TheVariants.{Minus}
+use Rattle.soda_words.specs.declared.operators.BinOp.TheVariants.{Add, Sub, Mul, Div}
+use Rattle.soda_words.specs.declared.operators.UnOp.TheVariants.{Minus}
 use Rattle.soda_words.specs.declared.symbol.Symbol.TheVariants.{PlusSign, MinusSign, Star, Slash, OpenRound, CloseRound, OpenSquare, CloseSquare}
 use Rattle.soda_words.specs.declared.token.Placed.{Placed}
 use Rattle.soda_words.specs.declared.token.Word.{Word}

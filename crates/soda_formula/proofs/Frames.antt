@@ -1,6 +1,6 @@
 -- The reader's frames, the innermost last, against the machine's.
 use Rattle.std.proofs.Common.{◌≡◌, ℕ, ◌≤◌, ◌<◌, nat_le, true, false, List, [], ◌∷◌, ◌++◌, length, Option, Some, None, option_map, refl, sym, ◌∙◌, ap, arith, length-append}
-use Rattle.int_types.specs.declared.operators.UnOp.{UnOp}
+use Rattle.soda_words.specs.declared.operators.UnOp.{UnOp}
 use Rattle.soda_formula.specs.declared.written.Written.{Written}
 use Rattle.soda_formula.specs.declared.frame.Infix.{Infix as Operator}
 use Rattle.soda_formula.specs.declared.frame.Frame.{Frame as Waiting}

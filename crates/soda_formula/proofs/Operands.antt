@@ -1,8 +1,8 @@
 -- What the machine holds stands for the tokens that it read: operands, and each token.
 use Rattle.std.proofs.Common.{append-nil, ◌≡◌, ℕ, ◌==◌, nat_lt, Bool, true, false, List, [], ◌∷◌, ◌++◌, length, codes, Option, Some, None, ℤ, pos, neg_ℤ, refl, sym, ap, subst, arith, append_assoc, length-append, if◌then◌else◌}
 use Rattle.std.proofs.lemmas.Bool.Decides.{nat_tests}
-use Rattle.int_types.specs.declared.operators.UnOp.{UnOp}
-use Rattle.int_types.specs.declared.operators.BinOp.TheVariants.{Min, Max}
+use Rattle.soda_words.specs.declared.operators.UnOp.{UnOp}
+use Rattle.soda_words.specs.declared.operators.BinOp.TheVariants.{Min, Max}
 use Rattle.soda_words.specs.Names.{behind, is_cast_word, is_word}
 use Rattle.soda_words.specs.declared.symbol.Symbol.{Symbol}
 use Rattle.soda_words.specs.declared.symbol.Symbol.TheVariants.{MinusSign, OpenRound, CloseRound, OpenSquare, CloseSquare, Comma}

@@ -1,7 +1,7 @@
 -- One level of a tree.
 use Rattle.std.proofs.Common.{◌≡◌, ℕ, List, ℤ, refl}
-use Rattle.int_types.specs.declared.operators.UnOp.{UnOp}
-use Rattle.int_types.specs.declared.operators.BinOp.{BinOp}
+use Rattle.soda_words.specs.declared.operators.UnOp.{UnOp}
+use Rattle.soda_words.specs.declared.operators.BinOp.{BinOp}
 use Rattle.soda_words.specs.declared.token.Word.{Word as Name}
 use Rattle.soda_formula.specs.declared.written.Written.{Written, Number, Cell, Value, Unary, Binary, Choice, Cast, the_lemmas}
 use Rattle.soda_formula.specs.declared.written.Written.TheBlock.{hidden-the_row-Written-0}

@@ -1,6 +1,6 @@
 -- Where the machine may end it has a formula, and wherever it is some tokens lead it there.
 use Rattle.std.proofs.Common.{◌≡◌, ℕ, nat_le, true, List, [], ◌∷◌, ◌++◌, Option, Some, None, ℤ, refl, sym, ◌∙◌, ap, subst, arith, pos, neg_ℤ}
-use Rattle.int_types.specs.declared.operators.UnOp.TheVariants.{Abs}
+use Rattle.soda_words.specs.declared.operators.UnOp.TheVariants.{Abs}
 use Rattle.soda_words.specs.declared.symbol.Symbol.TheVariants.{OpenRound, CloseRound, CloseSquare, Comma}
 use Rattle.soda_words.specs.declared.token.Placed.{Placed}
 use Rattle.soda_formula.specs.Terms.{Term, literal, cell, value, unary, binary, choice, cast}

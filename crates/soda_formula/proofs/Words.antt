@@ -1,8 +1,8 @@
 -- Small facts of the machine: words, operators and tests.
 use Rattle.std.proofs.Common.{◌≡◌, ℕ, ◌≤◌, ◌<◌, Bool, true, false, nat_le, nat_lt, ◌||◌, List, codes, Option, Some, None, if◌then◌else◌, refl, arith, sym, ◌∙◌, ap}
 use Rattle.std.proofs.lemmas.Bool.Decides.{nat_tests}
-use Rattle.int_types.specs.declared.operators.BinOp.{BinOp}
-use Rattle.int_types.specs.declared.operators.BinOp.TheVariants.{Min, Max}
+use Rattle.soda_words.specs.declared.operators.BinOp.{BinOp}
+use Rattle.soda_words.specs.declared.operators.BinOp.TheVariants.{Min, Max}
 use Rattle.soda_words.specs.Names.{is_cast_word, is_word, is_reserved}
 use Rattle.soda_words.specs.declared.symbol.Symbol.{Symbol}
 use Rattle.soda_words.specs.declared.symbol.Symbol.TheVariants.{BarBar, OpenRound, OpenSquare}

@@ -2,6 +2,7 @@ pub mod Terms
 pub mod Grammar
 pub mod Reading
 pub mod Tree
+pub mod Statements
 pub mod Fails
 pub mod Machine
 pub mod Views

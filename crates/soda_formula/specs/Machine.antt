@@ -1,9 +1,9 @@
 -- The machine that reads a formula one token at a time: what it holds, and what a token makes of it.
 use Rattle.std.specs.Prelude.{ℕ, nat_le, nat_lt, List, [], ◌∷◌, ◌++◌, length, codes, Option, Some, None, ℤ, pos, neg_ℤ, if◌then◌else◌}
-use Rattle.int_types.specs.declared.operators.UnOp.{UnOp}
-use Rattle.int_types.specs.declared.operators.UnOp.TheVariants.{Abs}
-use Rattle.int_types.specs.declared.operators.BinOp.{BinOp}
-use Rattle.int_types.specs.declared.operators.BinOp.TheVariants.{Min, Max}
+use Rattle.soda_words.specs.declared.operators.UnOp.{UnOp}
+use Rattle.soda_words.specs.declared.operators.UnOp.TheVariants.{Abs}
+use Rattle.soda_words.specs.declared.operators.BinOp.{BinOp}
+use Rattle.soda_words.specs.declared.operators.BinOp.TheVariants.{Min, Max}
 use Rattle.soda_words.specs.Names.{is_cast_word, is_word}
 use Rattle.soda_words.specs.declared.symbol.Symbol.{Symbol}
 use Rattle.soda_words.specs.declared.symbol.Symbol.TheVariants.{MinusSign, OpenRound, CloseRound, OpenSquare, CloseSquare, Comma}

@@ -1,7 +1,7 @@
 -- A formula as plain data, as it is written: names stand in place of tensors and params.
 use Rattle.std.specs.Prelude.{ℕ, List, ℤ}
-use Rattle.int_types.specs.declared.operators.UnOp.{UnOp}
-use Rattle.int_types.specs.declared.operators.BinOp.{BinOp}
+use Rattle.soda_words.specs.declared.operators.UnOp.{UnOp}
+use Rattle.soda_words.specs.declared.operators.BinOp.{BinOp}
 use Rattle.soda_words.specs.declared.token.Word.{Word}
 
 -- a formula as it is written, with names in place of tensors and params

@@ -1,6 +1,5 @@
 use crate::Written;
-use int_types::{BinOp, UnOp};
-use soda_words::Word;
+use soda_words::{BinOp, UnOp, Word};
 use sqlite_items::Items;
 
 /// An operator between two operands. The level of the loosest is 0.

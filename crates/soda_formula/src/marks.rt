@@ -11,8 +11,7 @@ use crate::operators::infix_of;
 use crate::stack::{alone, lone, reduced, waiting};
 use crate::trees::{binary, cast, choice, unary};
 use crate::{NoMemory, Written};
-use int_types::UnOp;
-use soda_words::{Symbol, Token};
+use soda_words::{Symbol, Token, UnOp};
 use sqlite_items::Items;
 use std::alloc::Global;
 
@@ -95,11 +94,20 @@ fn enclosed(alloc: Global, frame: Frame, operand: Written) -> Result<Option<Writ
         Frame::Abs => Ok(Some(unary(alloc, UnOp::Abs, operand)?)),
         Frame::Second(op, first) => Ok(Some(binary(alloc, op, first, operand)?)),
         Frame::Else(test, first) => Ok(Some(choice(alloc, test, first, operand)?)),
-        Frame::Prefix(_) => Ok(None),
-        Frame::Infix(_, _) => Ok(None),
-        Frame::First(_) => Ok(None),
-        Frame::Test => Ok(None),
-        Frame::Then(_) => Ok(None),
+        Frame::Infix(_, left) => {
+            drop(left);
+            drop(operand);
+            Ok(None)
+        }
+        Frame::Then(test) => {
+            drop(test);
+            drop(operand);
+            Ok(None)
+        }
+        Frame::Prefix(_) | Frame::First(_) | Frame::Test => {
+            drop(operand);
+            Ok(None)
+        }
     }
 }
 
@@ -124,6 +132,10 @@ fn parted(frame: Frame, operand: Written) -> Option<Frame>
         Frame::First(op) => Some(Frame::Second(op, operand)),
         Frame::Test => Some(Frame::Then(operand)),
         Frame::Then(test) => Some(Frame::Else(test, operand)),
-        _ => None,
+        other => {
+            drop(other);
+            drop(operand);
+            None
+        }
     }
 }

@@ -10,8 +10,7 @@ use crate::frame::{Fed, Frame, Mode, Opening, Reader};
 use crate::operators::prefix_of;
 use crate::stack::waiting;
 use crate::trees::number;
-use int_types::BinOp;
-use soda_words::{Placed, Symbol, Token, Word, is_cast_word, is_word};
+use soda_words::{BinOp, Placed, Symbol, Token, Word, is_cast_word, is_word};
 use sqlite_items::Items;
 use std::alloc::Global;
 
@@ -80,9 +79,15 @@ pub(crate) fn opened(frames: Items<Frame>, call: Frame, token: &Token) -> Result
     match token {
         Token::Sign(symbol) => match symbol {
             Symbol::OpenRound => Ok(Fed::On(waiting(frames, call)?)),
-            _ => Ok(Fed::End(None)),
+            _ => {
+                drop(call);
+                Ok(Fed::End(None))
+            }
         },
-        Token::Name(_) | Token::Number(_) | Token::Bad => Ok(Fed::End(None)),
+        Token::Name(_) | Token::Number(_) | Token::Bad => {
+            drop(call);
+            Ok(Fed::End(None))
+        }
     }
 }
 

@@ -3,8 +3,7 @@ ghost use Rattle.soda_formula.specs.Grammar.{infix_of, prefix_of};
 ghost use Rattle.soda_formula.specs.Views.{infix_as};
 
 use crate::frame::Infix;
-use int_types::{BinOp, UnOp};
-use soda_words::Symbol;
+use soda_words::{BinOp, Symbol, UnOp};
 
 /// The operator between two operands that a symbol is, if it is one.
 pub(crate) fn infix_of(symbol: Symbol) -> Option<Infix>

@@ -35,13 +35,23 @@ impl Reader {
             Mode::Whole(operand) => alone(alloc, frames, operand),
             Mode::Named(param) => alone(alloc, frames, value(param, Items::new(alloc))),
             Mode::Indexed(param, indexes) => alone(alloc, frames, value(param, indexes)),
-            Mode::Wanted
-            | Mode::Called(_)
-            | Mode::Component(_, _)
-            | Mode::Magnitude(_, _)
-            | Mode::BehindComponent(_, _)
-            | Mode::Index(_, _)
-            | Mode::Close(_, _) => Ok(None),
+            Mode::Wanted => Ok(None),
+            Mode::Called(call) => {
+                drop(call);
+                Ok(None)
+            }
+            Mode::Component(tensor, offsets)
+            | Mode::Magnitude(tensor, offsets)
+            | Mode::BehindComponent(tensor, offsets) => {
+                drop(tensor);
+                drop(offsets);
+                Ok(None)
+            }
+            Mode::Index(param, indexes) | Mode::Close(param, indexes) => {
+                drop(param);
+                drop(indexes);
+                Ok(None)
+            }
         }
     }
 

@@ -1,6 +1,5 @@
 use super::*;
-use int_types::{BinOp, UnOp};
-use soda_words::{Placed, Symbol, Token};
+use soda_words::{BinOp, Placed, Symbol, Token, UnOp};
 use sqlite_items::Items;
 use std::alloc::Global;
 use std::test::Fail;

@@ -5,8 +5,7 @@ ghost use Rattle.soda_formula.specs.Terms.{literal, cell, value, unary, binary, 
 ghost use Rattle.soda_formula.specs.Tree.{term_of};
 
 use crate::{NoMemory, Written};
-use int_types::{BinOp, UnOp};
-use soda_words::Word;
+use soda_words::{BinOp, UnOp, Word};
 use sqlite_items::{Boxed, Items};
 use std::alloc::Global;
 
@@ -42,9 +41,9 @@ pub(crate) fn binary(
 ) -> Result<Written, NoMemory>
     ensures { IfOk result (λ w. term_of w ≡ binary op (term_of left) (term_of right)) }
 {
-    let left = Boxed::new(alloc, left)?;
-    let right = Boxed::new(alloc, right)?;
-    Ok(Written::Binary(op, left, right))
+    let left = Boxed::new(alloc, left);
+    let right = Boxed::new(alloc, right);
+    Ok(Written::Binary(op, left?, right?))
 }
 
 pub(crate) fn choice(
@@ -55,10 +54,10 @@ pub(crate) fn choice(
 ) -> Result<Written, NoMemory>
     ensures { IfOk result (λ w. term_of w ≡ choice (term_of test) (term_of first) (term_of second)) }
 {
-    let test = Boxed::new(alloc, test)?;
-    let first = Boxed::new(alloc, first)?;
-    let second = Boxed::new(alloc, second)?;
-    Ok(Written::Choice(test, first, second))
+    let test = Boxed::new(alloc, test);
+    let first = Boxed::new(alloc, first);
+    let second = Boxed::new(alloc, second);
+    Ok(Written::Choice(test?, first?, second?))
 }
 
 pub(crate) fn cast(alloc: Global, word: Word, operand: Written) -> Result<Written, NoMemory>

@@ -1,5 +1,4 @@
-use int_types::{BinOp, UnOp};
-use soda_words::Word;
+use soda_words::{BinOp, UnOp, Word};
 use sqlite_items::{Boxed, Items};
 
 /// A formula as it is written, with names in place of tensors and params.

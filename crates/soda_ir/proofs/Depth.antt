@@ -1,7 +1,7 @@
 -- A deeper look changes nothing.
 use Rattle.std.proofs.Common.{◌≡◌, ℕ, zero, suc, ◌<◌, Bool, true, ◌&&◌, List, Option, Some, None, ℤ, refl, sym, ◌∙◌, ap, nat_lt, arith, if◌then◌else◌}
 use borrow.Author.Tests.{ltb-true}
-use Rattle.int_types.specs.IntType.{wrapped}
+use Rattle.int_types.specs.Ranges.{wrapped}
 use Rattle.soda_ir.specs.Formula.{Formula, valued}
 use Rattle.soda_ir.specs.Points.{in_box, moved}
 use Rattle.soda_ir.specs.Arrays.{every, Stencil, Given, in_region, cell, by_formula, formula_at, type_at, outside_cell, IsPlaced, IsMeaning}

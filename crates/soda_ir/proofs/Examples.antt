@@ -1,8 +1,9 @@
 -- The definitions at small programs, by computation.
 use Rattle.std.proofs.Common.{◌≡◌, ℕ, true, false, List, [], ◌∷◌, Some, None, ℤ, pos, negsuc, codes, replicate, refl}
-use Rattle.int_types.specs.IntType.{IntType, wrapped}
-use Rattle.int_types.specs.Operators.{int32, binary_value}
-use Rattle.int_types.specs.declared.operators.BinOp.TheVariants.{Add, Mul, Div}
+use Rattle.soda_words.specs.IntType.{IntType, int32}
+use Rattle.int_types.specs.Ranges.{wrapped}
+use Rattle.int_types.specs.Operators.{binary_value}
+use Rattle.soda_words.specs.declared.operators.BinOp.TheVariants.{Add, Mul, Div}
 use Rattle.soda_ir.specs.declared.program.Border.{Border}
 use Rattle.soda_ir.specs.declared.program.Border.TheVariants.{Ignore, Preserve}
 use Rattle.soda_ir.specs.declared.program.Role.TheVariants.{Input, Local, Output}

@@ -1,6 +1,6 @@
 -- A cell from the cells that it reads, wherever these are kept.
 use Rattle.std.proofs.Common.{◌≡◌, ℕ, ◌<◌, Bool, true, false, ◌&&◌, List, Some, ℤ, pos, unsigned_abs, refl, sym, ◌∙◌, ap, if◌then◌else◌, slice_index_or}
-use Rattle.int_types.specs.IntType.{wrapped}
+use Rattle.int_types.specs.Ranges.{wrapped}
 use Rattle.soda_ir.specs.Formula.{Formula, Values, valued}
 use Rattle.soda_ir.specs.Points.{size, in_box, point, linear, moved}
 use Rattle.soda_ir.specs.Arrays.{every, Stencil, Given, by_formula, formula_at, type_at, outside_cell, IsMeaning, array_cell}

@@ -3,7 +3,7 @@ use Rattle.std.proofs.Common.{◌≡◌, ℕ, zero, suc, ◌*◌, ◌<◌, ◌�
 use mathlib.Core.Bool.{beq}
 use Rattle.std.proofs.lemmas.Bool.{eqb-true}
 use Rattle.std.proofs.lemmas.Bool.Decides.{nat_tests}
-use Rattle.int_types.specs.IntType.{IntType, IsType, IsCellSize, cell_sizes}
+use Rattle.soda_words.specs.IntType.{IntType, IsType, IsCellSize, cell_sizes}
 use Rattle.soda_ir.specs.Valid.{cell_size}
 
 one_of_four : (k s : ℕ) → k < 4 → slice_index_or cell_sizes k s ≡ s → (s ≡ 1) ⊎ ((s ≡ 2) ⊎ ((s ≡ 4) ⊎ (s ≡ 8)))

@@ -1,6 +1,6 @@
 -- The equations of regions and cells.
 use Rattle.std.proofs.Common.{◌≡◌, ℕ, suc, ◌&&◌, List, ℤ, refl, if◌then◌else◌}
-use Rattle.int_types.specs.IntType.{wrapped}
+use Rattle.int_types.specs.Ranges.{wrapped}
 use Rattle.soda_ir.specs.Formula.{valued}
 use Rattle.soda_ir.specs.Points.{in_box, moved}
 use Rattle.soda_ir.specs.Arrays.{every, Stencil, Given, in_region, cell, by_formula, formula_at, type_at, outside_cell}

@@ -2,9 +2,9 @@
 use Rattle.std.proofs.Common.{◌≡◌, ℕ, ◌*◌, ◌<◌, Bool, true, false, ◌&&◌, List, [], ◌∷◌, Some, None, ℤ, pos, unsigned_abs, length, map, option_map, refl, sym, ◌∙◌, ap, subst, nat_eq, arith, All, eq-eqb, zero, suc, slice_get, slice_index_or, if◌then◌else◌, ◌≢◌}
 use Rattle.std.proofs.lemmas.Bool.{eqb-true}
 use Rattle.std.proofs.lemmas.List.Elements.{All-head, All-tail}
-use Rattle.int_types.specs.IntType.{IntType, wrapped, InRange}
-use Rattle.int_types.specs.Operators.{int32}
-use Rattle.int_types.specs.declared.operators.BinOp.TheVariants.{Add, Sub}
+use Rattle.soda_words.specs.IntType.{IntType, int32}
+use Rattle.int_types.specs.Ranges.{wrapped, InRange}
+use Rattle.soda_words.specs.declared.operators.BinOp.TheVariants.{Add, Sub}
 use Rattle.int_types.proofs.Wrapped.{zero_in_range}
 use Rattle.soda_ir.specs.declared.program.Tensor.{Tensor}
 use Rattle.soda_ir.specs.Arrays.{every, Each, Stencil, Given, in_region, cell, whole, array_cell, by_formula, formula_at}

@@ -1,6 +1,6 @@
 -- What a formula reads decides its tests and its value.
 use Rattle.std.proofs.Common.{◌≡◌, ℕ, Bool, true, false, ◌&&◌, List, ℤ, refl, ◌∙◌, ap}
-use Rattle.int_types.specs.IntType.{wrapped}
+use Rattle.int_types.specs.Ranges.{wrapped}
 use Rattle.int_types.specs.Operators.{unary_value, binary_value, select_value}
 use Rattle.soda_ir.specs.Formula.{Formula, number, read, param, unary, binary, choice, cast, Scope, Values, typed, valued}
 use Rattle.soda_ir.specs.Arrays.{every}

@@ -1,8 +1,8 @@
 -- One level of a tree.
 use Rattle.std.proofs.Common.{◌≡◌, ℕ, ℤ, refl}
-use Rattle.int_types.specs.IntType.{IntType}
-use Rattle.int_types.specs.declared.operators.UnOp.{UnOp}
-use Rattle.int_types.specs.declared.operators.BinOp.{BinOp}
+use Rattle.soda_words.specs.IntType.{IntType}
+use Rattle.soda_words.specs.declared.operators.UnOp.{UnOp}
+use Rattle.soda_words.specs.declared.operators.BinOp.{BinOp}
 use Rattle.arrayvec.specs.ArrayVec.{ArrayVec}
 use Rattle.soda_ir.specs.declared.expr.Expr.{Expr, Num, Cell, Par, Un, Bin, Select, Cast, the_lemmas}
 use Rattle.soda_ir.specs.declared.expr.Expr.TheBlock.{hidden-the_row-Expr-0}

@@ -1,7 +1,7 @@
 -- What a valid program is, at small programs, by computation.
 use Rattle.std.proofs.Common.{◌≡◌, ℕ, zero, suc, ◌<◌, true, false, [], ◌∷◌, pos, negsuc, codes, refl, lit≤, arith}
-use Rattle.int_types.specs.declared.operators.UnOp.TheVariants.{Abs, Minus}
-use Rattle.int_types.specs.declared.operators.BinOp.TheVariants.{Add, Sub, Mul, Max}
+use Rattle.soda_words.specs.declared.operators.UnOp.TheVariants.{Abs, Minus}
+use Rattle.soda_words.specs.declared.operators.BinOp.TheVariants.{Add, Sub, Mul, Max}
 use Rattle.soda_ir.specs.declared.program.Border.TheVariants.{Ignore, Preserve}
 use Rattle.soda_ir.specs.Counts.{can_be_placed, is_reached, is_wanted, live_count, read_count}
 use Rattle.soda_ir.specs.Examples.{at, sum3, three}

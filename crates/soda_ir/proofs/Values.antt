@@ -1,9 +1,10 @@
 -- The value of one level of a tree, from the values of its parts.
 use Rattle.std.proofs.Common.{◌≡◌, ℕ, List, ℤ, ◌<◌, length, sym, ◌∙◌, ap, subst}
 use Rattle.arrayvec.specs.ArrayVec.{ArrayVec}
-use Rattle.int_types.specs.IntType.{IntType, wrapped}
-use Rattle.int_types.specs.declared.operators.UnOp.{UnOp}
-use Rattle.int_types.specs.declared.operators.BinOp.{BinOp}
+use Rattle.soda_words.specs.IntType.{IntType}
+use Rattle.int_types.specs.Ranges.{wrapped}
+use Rattle.soda_words.specs.declared.operators.UnOp.{UnOp}
+use Rattle.soda_words.specs.declared.operators.BinOp.{BinOp}
 use Rattle.int_types.specs.Operators.{unary_value, binary_value, select_value}
 use Rattle.soda_ir.specs.declared.expr.Expr.{Expr, Cell, Par, Un, Bin, Select, Cast}
 use Rattle.soda_ir.specs.Formula.{Scope, Values, Formula, typed, valued, IsReadable, read, param, unary, binary, choice, cast}

@@ -1,7 +1,7 @@
 -- The arrays that a program defines, point by point.
 use Rattle.std.specs.Prelude.{◌≡◌, nat_lt, ℕ, zero, suc, Bool, true, false, ◌&&◌, List, [], Option, Some, None, ℤ, pos, unsigned_abs, if◌then◌else◌, slice_index_or, length}
-use Rattle.int_types.specs.IntType.{IntType, wrapped}
-use Rattle.int_types.specs.Operators.{int32}
+use Rattle.soda_words.specs.IntType.{IntType, int32}
+use Rattle.int_types.specs.Ranges.{wrapped}
 use Rattle.soda_ir.specs.Formula.{Formula, number, read, param, unary, binary, choice, cast, Scope, valued}
 use Rattle.soda_ir.specs.Points.{linear, in_box, moved}
 

@@ -1,6 +1,6 @@
 -- A small program, on which the definitions and the calls are tried.
 use Rattle.std.specs.Prelude.{[], ◌∷◌, ℤ, pos, negsuc, codes}
-use Rattle.int_types.specs.declared.operators.BinOp.TheVariants.{Add}
+use Rattle.soda_words.specs.declared.operators.BinOp.TheVariants.{Add}
 use Rattle.soda_ir.specs.Formula.{Formula, read, binary}
 use Rattle.soda_ir.specs.Program.{PlainProgram}
 use Rattle.soda_ir.specs.Sums.{sum_program}

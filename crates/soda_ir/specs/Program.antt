@@ -1,6 +1,7 @@
 -- A program as plain data, and the arrays that it defines.
 use Rattle.std.specs.Prelude.{◌≡◌, ℕ, suc, ◌+◌, Bool, true, false, List, [], ◌∷◌, ◌++◌, map, length, replicate, All, Option, Some, None, option_map, ℤ}
-use Rattle.int_types.specs.IntType.{IntType, InRange}
+use Rattle.soda_words.specs.IntType.{IntType}
+use Rattle.int_types.specs.Ranges.{InRange}
 use Rattle.soda_ir.specs.declared.program.Border.{Border}
 use Rattle.soda_ir.specs.declared.program.Border.TheVariants.{Ignore, Preserve}
 use Rattle.soda_ir.specs.declared.program.Param.{Param}

@@ -1,8 +1,8 @@
 -- The programs that are built so far: a sum of cells of one input, in one dimension.
 use Rattle.std.specs.Prelude.{◌≡◌, ◌≢◌, ℕ, ◌+◌, ◌%◌, ◌≤◌, Bool, true, false, not, ◌&&◌, ◌==◌, nat_le, List, [], ◌∷◌, length, Some, None, ℤ, unsigned_abs}
-use Rattle.int_types.specs.IntType.{IntType}
-use Rattle.int_types.specs.declared.operators.BinOp.{BinOp}
-use Rattle.int_types.specs.declared.operators.BinOp.TheVariants.{Add, Sub}
+use Rattle.soda_words.specs.IntType.{IntType}
+use Rattle.soda_words.specs.declared.operators.BinOp.{BinOp}
+use Rattle.soda_words.specs.declared.operators.BinOp.TheVariants.{Add, Sub}
 use Rattle.soda_ir.specs.declared.program.Border.TheVariants.{Ignore}
 use Rattle.soda_ir.specs.declared.program.Role.TheVariants.{Input, Output}
 use Rattle.soda_ir.specs.Formula.{Formula, number, read, param, unary, binary, choice, cast}

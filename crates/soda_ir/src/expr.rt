@@ -1,5 +1,5 @@
 use arrayvec::ArrayVec;
-use int_types::{BinOp, Ty, UnOp};
+use soda_words::{BinOp, Ty, UnOp};
 use sqlite_items::Boxed;
 
 /// A vector of at most four components, the first of them along the dimension that changes fastest.

@@ -1,7 +1,7 @@
 ghost use Rattle.std.specs.Prelude.{◌≡◌, ◌<◌, Bool, true, ℕ, List, ℤ, pos, ◌+ℤ◌, unsigned_abs, length, Some, slice_index_or, if◌then◌else◌};
 ghost use Rattle.soda_ir.specs.Points.{size, in_box, point, linear, moved};
 ghost use Rattle.soda_ir.specs.Arrays.{Stencil, Given, IsPlaced, IsMeaning, in_region, cell, formula_at, type_at, outside_cell, array_cell};
-ghost use Rattle.int_types.specs.IntType.{wrapped};
+ghost use Rattle.int_types.specs.Ranges.{wrapped};
 ghost use Rattle.soda_ir.specs.Formula.{Formula, valued};
 
 /// Where tensors can be placed, the regions and cells are as the sentences say.

@@ -1,6 +1,6 @@
 use super::*;
 use arrayvec::ArrayVec;
-use int_types::{BinOp, Ty};
+use soda_words::{BinOp, Ty};
 use sqlite_items::{Boxed, Items};
 use std::alloc::Global;
 use std::test::Fail;

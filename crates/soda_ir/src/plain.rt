@@ -1,5 +1,5 @@
 ghost use Rattle.std.specs.Prelude.{◌≡◌, ◌<◌, ◌≤◌, ◌^◌, ◌∷◌, [], ℕ, List, ℤ, Some, pos, true, length, IfOk, slice_index_or};
-ghost use Rattle.int_types.specs.Operators.{int32};
+ghost use Rattle.soda_words.specs.IntType.{int32};
 ghost use Rattle.soda_ir.specs.Arrays.{Each, array_cell, by_formula, cell, every, formula_at, whole};
 ghost use Rattle.soda_ir.specs.Formula.{Formula, valued};
 ghost use Rattle.soda_ir.specs.Points.{in_box, listed, moved, point, size};

@@ -1,5 +1,5 @@
 ghost use Rattle.std.specs.Prelude.{◌≡◌, ◌+◌, ◌^◌, ◌<◌, length, map, min, option_map, pos, slice_index_or, IfOk};
-ghost use Rattle.int_types.specs.Operators.{int32};
+ghost use Rattle.soda_words.specs.IntType.{int32};
 ghost use Rattle.soda_ir.specs.Counts.{is_input, is_output};
 ghost use Rattle.soda_ir.specs.Program.{plain, scope_of};
 ghost use Rattle.soda_ir.specs.Tree.{formula_of};
@@ -10,7 +10,7 @@ use crate::expr::Expr;
 use crate::make::{MakeRefusal, is_valid};
 use crate::params::{first_params, value_count};
 use crate::uses;
-use int_types::Ty;
+use soda_words::Ty;
 use sqlite_items::Items;
 use std::alloc::Global;
 use std::marker::Model;

@@ -7,7 +7,7 @@ use crate::expr::{Expr, Offset};
 use crate::program::{Parts, Program, Tensor};
 use crate::reads::is_preserved;
 use crate::uses::{is_input, is_output};
-use int_types::{BinOp, Ty};
+use soda_words::{BinOp, Ty};
 
 // No formula of so many cells is told from a larger one.
 const MANY: u64 = 10_000;

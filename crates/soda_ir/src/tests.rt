@@ -1,5 +1,5 @@
 ghost use Rattle.std.specs.Prelude.{◌≡◌, [], ◌∷◌, IfOk, ℤ, ℕ, List, pos, codes};
-ghost use Rattle.int_types.specs.declared.operators.BinOp.TheVariants.{Add};
+ghost use Rattle.soda_words.specs.declared.operators.BinOp.TheVariants.{Add};
 ghost use Rattle.soda_ir.specs.Examples.{at, sum3, three};
 ghost use Rattle.soda_ir.specs.Formula.{binary};
 ghost use Rattle.soda_ir.specs.Program.{plain, plain_tensor};
@@ -8,7 +8,8 @@ ghost use Rattle.soda_ir.specs.Tree.{formula_of};
 
 use super::*;
 use arrayvec::ArrayVec;
-use int_types::{BinOp, Ty, in_range};
+use soda_words::{BinOp, Ty};
+use int_types::in_range;
 use sqlite_items::{Boxed, Items};
 use std::alloc::Global;
 use std::test::Fail;

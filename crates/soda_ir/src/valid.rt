@@ -1,6 +1,6 @@
 ghost use Rattle.std.specs.Prelude.{◌≡◌, ◌<◌, ◌≤◌, ◌&&◌, ◌==◌, ◌↔◌, [], ◌∷◌, ◌++◌, suc, not, nat_le, map, length, IfOk, OnOk, IsTrue, if◌then◌else◌};
 ghost use Rattle.std.specs.List.{list_all, list_any};
-ghost use Rattle.int_types.specs.IntType.{IntType};
+ghost use Rattle.soda_words.specs.IntType.{IntType};
 ghost use Rattle.soda_ir.specs.Counts.{is_input_role, is_output_role};
 ghost use Rattle.soda_ir.specs.Points.{size};
 ghost use Rattle.soda_ir.specs.Program.{input_types, plain, plain_param, plain_tensor};
@@ -10,7 +10,7 @@ use crate::NoMemory;
 use crate::params::{product, value_count};
 use crate::program::{Param, Parts, Role, Tensor};
 use crate::uses::{has_formula_if_no_input, has_good_uses, is_input, is_output, is_small};
-use int_types::{Ty, cell_bytes};
+use soda_words::{Ty, cell_bytes};
 use std::alloc::Global;
 
 /// The greatest product of the fixed extents.

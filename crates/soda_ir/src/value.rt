@@ -1,12 +1,13 @@
 ghost use Rattle.std.specs.Prelude.{◌≡◌, ◌+◌, ◌<◌, List, ℤ, ℕ, length};
-ghost use Rattle.int_types.specs.IntType.{InRange};
+ghost use Rattle.int_types.specs.Ranges.{InRange};
 ghost use Rattle.soda_ir.specs.Formula.{typed, valued, IsReadable};
 ghost use Rattle.soda_ir.specs.Program.{plain, scope_of};
 ghost use Rattle.soda_ir.specs.Tree.{formula_of};
 
 use crate::expr::{Expr, Offset};
 use crate::program::{Parts, Program};
-use int_types::{Ty, binary, literal_type, select, unary, wrap};
+use soda_words::Ty;
+use int_types::{binary, literal_type, select, unary, wrap};
 
 /// A value for each tensor number and offset.
 pub trait Cells {

@@ -5,7 +5,7 @@ ghost use Rattle.soda_ir.specs.Written.{binary_level, call_pairs, index_count, l
 
 use crate::expr::Expr;
 use crate::program::Parts;
-use int_types::{BinOp, UnOp};
+use soda_words::{BinOp, UnOp};
 
 // No formula of so many tokens is told from a larger one.
 const MANY: u64 = 10_000;

@@ -20,10 +20,10 @@ use Rattle.soda_parse.proofs.Places.{HasParams, good_uses}
 use Rattle.soda_parse.proofs.SameTypes.{both_of}
 use Rattle.soda_parse.proofs.Tiling.{none_here}
 use Rattle.soda_parse.proofs.Uses.{Fits, none_in_both}
-use Rattle.soda_syntax.specs.Statements.{PlainStatement, PlainFormulaLine, kernel, burst_width, unroll_factor, iterate, border, cluster, param, input, local, output}
-use Rattle.soda_syntax.specs.declared.statement.InputLine.{InputLine}
-use Rattle.soda_syntax.specs.declared.statement.ParamLine.{ParamLine}
-use Rattle.soda_syntax.specs.declared.statement.Size.{Size}
+use Rattle.soda_formula.specs.Statements.{PlainStatement, PlainFormulaLine, kernel, burst_width, unroll_factor, iterate, border, cluster, param, input, local, output}
+use Rattle.soda_formula.specs.declared.statement.InputLine.{InputLine}
+use Rattle.soda_formula.specs.declared.statement.ParamLine.{ParamLine}
+use Rattle.soda_formula.specs.declared.statement.Size.{Size}
 
 past_sizes : (o : Outline) (sizes : List Size) (ys : List Site) → find (is_wrong_site o) (map (λ s. SiteSize s) sizes ++ ys) ≡ None → find (is_wrong_site o) ys ≡ None
 past_sizes o sizes ys e = (none_in_both (is_wrong_site o) (map (λ s. SiteSize s) sizes) ys e).1

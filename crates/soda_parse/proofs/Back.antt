@@ -2,7 +2,7 @@
 use Rattle.std.proofs.Common.{◌≡◌, ℕ, suc, true, false, List, [], ◌∷◌, ◌++◌, length, map, Some, None, refl, sym, ap, ◌∙◌}
 use Rattle.std.specs.Prelude.{flat_map, position}
 use Rattle.std.specs.List.{list_any}
-use Rattle.int_types.specs.IntType.{IntType}
+use Rattle.soda_words.specs.IntType.{IntType}
 use Rattle.soda_checks.specs.Conditions.{first_tile}
 use Rattle.soda_checks.specs.Outline.{outline_in, outline_of}
 use Rattle.soda_checks.specs.declared.outline.Defined.{Defined}
@@ -13,10 +13,10 @@ use Rattle.soda_ir.specs.Program.{PlainParam, PlainProgram, PlainTensor}
 use Rattle.soda_ir.specs.declared.program.Role.TheVariants.{Input, Local, Output}
 use Rattle.soda_parse.specs.Meaning.{fixed_in, formula_of as meant, input_of, int_type, param_of, tensors_in, tensor_number}
 use Rattle.soda_print.specs.Canonical.{type_text}
-use Rattle.soda_syntax.specs.declared.statement.Extent.TheVariants.{Fixed, Open}
-use Rattle.soda_syntax.specs.declared.statement.InputLine.{InputLine}
-use Rattle.soda_syntax.specs.declared.statement.ParamLine.{ParamLine}
-use Rattle.soda_syntax.specs.declared.statement.Size.{Size}
+use Rattle.soda_formula.specs.declared.statement.Extent.TheVariants.{Fixed, Open}
+use Rattle.soda_formula.specs.declared.statement.InputLine.{InputLine}
+use Rattle.soda_formula.specs.declared.statement.ParamLine.{ParamLine}
+use Rattle.soda_formula.specs.declared.statement.Size.{Size}
 use Rattle.soda_words.specs.declared.token.Word.{Word}
 use Rattle.soda_words.specs.Names.{is_word}
 use Rattle.soda_parse.proofs.Lookups.{place_in_two, place_mapped}

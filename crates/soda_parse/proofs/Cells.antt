@@ -16,9 +16,9 @@ use Rattle.soda_parse.specs.Meaning.{input_of, tensors_in}
 use Rattle.soda_parse.proofs.Kept.{none_first, none_second}
 use Rattle.soda_parse.proofs.Tiling.{none_here}
 use Rattle.soda_parse.proofs.Uses.{FineCells, Fits, far_uses, good_cells, none_in_both}
-use Rattle.soda_syntax.specs.Statements.{PlainStatement, PlainFormulaLine, kernel, burst_width, unroll_factor, iterate, border, cluster, param, input, local, output}
-use Rattle.soda_syntax.specs.declared.statement.InputLine.{InputLine}
-use Rattle.soda_syntax.specs.declared.statement.Size.{Size}
+use Rattle.soda_formula.specs.Statements.{PlainStatement, PlainFormulaLine, kernel, burst_width, unroll_factor, iterate, border, cluster, param, input, local, output}
+use Rattle.soda_formula.specs.declared.statement.InputLine.{InputLine}
+use Rattle.soda_formula.specs.declared.statement.Size.{Size}
 
 -- the cells of all formulas are fine
 abbrev pub AllFine : Outline → ℕ → List PlainStatement → Type 0

@@ -6,7 +6,7 @@ use Rattle.soda_checks.specs.Outline.{outline_in, outline_of}
 use Rattle.soda_checks.specs.declared.outline.Outline.{Outline}
 use Rattle.soda_parse.specs.Meaning.{input_of, program_by, tensors_in}
 use Rattle.soda_syntax.specs.Grammar.{AreStatements, IsStatement, a_kernel, a_burst_width, an_unroll_factor, an_iterate, ignored_border, preserved_border, a_cluster, a_param, an_input, a_local, an_output, no_statement, statement_before}
-use Rattle.soda_syntax.specs.Statements.{PlainStatement, kernel, burst_width, unroll_factor, iterate, border, cluster, param, input, local, output}
+use Rattle.soda_formula.specs.Statements.{PlainStatement, kernel, burst_width, unroll_factor, iterate, border, cluster, param, input, local, output}
 use Rattle.soda_words.specs.Tokens.{front_of, line_behind, placed, tokens_behind, tokens_of}
 use Rattle.soda_words.specs.declared.token.Placed.{Placed}
 use Rattle.soda_words.specs.declared.token.Token.{Token}

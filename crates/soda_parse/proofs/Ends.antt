@@ -20,8 +20,8 @@ use Rattle.soda_parse.proofs.Places.{HasParams, good_uses}
 use Rattle.soda_parse.proofs.SameTypes.{both_of, equal_lists}
 use Rattle.soda_parse.proofs.Tiling.{false_not, none_here}
 use Rattle.soda_parse.proofs.Uses.{Fits, none_in_both}
-use Rattle.soda_syntax.specs.Statements.{PlainStatement, kernel, burst_width, unroll_factor, iterate, border, cluster, param, input, local, output}
-use Rattle.soda_syntax.specs.declared.statement.InputLine.{InputLine}
+use Rattle.soda_formula.specs.Statements.{PlainStatement, kernel, burst_width, unroll_factor, iterate, border, cluster, param, input, local, output}
+use Rattle.soda_formula.specs.declared.statement.InputLine.{InputLine}
 
 no_inputs : (o : Outline) (ss : List PlainStatement) → list_all (λ u. not (is_input_role u.role)) (flat_map (tensors_in o) ss) ≡ true
 no_inputs o [] = refl

@@ -16,7 +16,7 @@ use Rattle.soda_parse.specs.Text.{Accepts, Refuses, too_long, no_ascii, no_synta
 use Rattle.soda_parse.specs.declared.refusal.Refusal.{Refusal}
 use Rattle.soda_parse.specs.declared.refusal.Refusal.TheVariants.{Syntax, NotAscii}
 use Rattle.soda_syntax.proofs.Laws.{statements_are_one}
-use Rattle.soda_syntax.specs.Statements.{PlainStatement}
+use Rattle.soda_formula.specs.Statements.{PlainStatement}
 use Rattle.soda_syntax.specs.SyntaxError.{BeginsText, IsGoodStart, IsSyntax, IsSyntaxError, IsWrongAt, EndsTooEarly}
 use Rattle.soda_words.specs.Tokens.{not_ascii, tokens_of}
 use Rattle.soda_words.specs.declared.token.Placed.{Placed}

@@ -5,7 +5,7 @@ use Rattle.std.specs.List.{list_any}
 use Rattle.std.proofs.lemmas.Bool.Decides.{nat_tests}
 use Rattle.std.proofs.lemmas.List.Folds.{list_any-append}
 use Rattle.std.proofs.Math.Dec.{eqb-suc-zero}
-use Rattle.int_types.specs.IntType.{IntType, IsType}
+use Rattle.soda_words.specs.IntType.{IntType, IsType}
 use Rattle.soda_checks.specs.Conditions.{are_below, first_by, has_output, has_wrong_dims, is_tensor, is_unknown, is_wrong_site, line_where, missing, name_twice, param_use, site_line, taken_behind, twice, twice_behind, unknown_name, wrong_dims, wrong_dims_beside}
 use Rattle.soda_checks.specs.Outline.{is_one_of, is_same, outline_in, outline_of}
 use Rattle.soda_checks.specs.Types.{is_float, type_of}
@@ -18,10 +18,10 @@ use Rattle.soda_ir.specs.Valid.{IsValid, names_of}
 use Rattle.soda_print.specs.Canonical.{indexes, tensor_name, type_text}
 use Rattle.soda_print.specs.Sized.{IsSizedProgram}
 use Rattle.soda_checks.specs.declared.outline.Site.TheVariants.{Value}
-use Rattle.soda_syntax.specs.declared.statement.Extent.{Extent}
-use Rattle.soda_syntax.specs.declared.statement.Extent.TheVariants.{Fixed, Open}
-use Rattle.soda_syntax.specs.declared.statement.InputLine.{InputLine}
-use Rattle.soda_syntax.specs.declared.statement.ParamLine.{ParamLine}
+use Rattle.soda_formula.specs.declared.statement.Extent.{Extent}
+use Rattle.soda_formula.specs.declared.statement.Extent.TheVariants.{Fixed, Open}
+use Rattle.soda_formula.specs.declared.statement.InputLine.{InputLine}
+use Rattle.soda_formula.specs.declared.statement.ParamLine.{ParamLine}
 use Rattle.soda_words.specs.Names.{is_name, is_reserved, is_word}
 use Rattle.soda_words.specs.declared.token.Word.{Word}
 use Rattle.soda_parse.proofs.FineSites.{AreTensors, Passes, sites_none, types_none}

@@ -5,7 +5,7 @@ use Rattle.std.specs.List.{list_all}
 use Rattle.std.proofs.lemmas.Bool.Decides.{nat_tests}
 use Rattle.std.proofs.lemmas.List.Sums.{sum_by-cons}
 use Rattle.std.proofs.lemmas.Nat.{mul-le}
-use Rattle.int_types.specs.IntType.{IntType}
+use Rattle.soda_words.specs.IntType.{IntType}
 use Rattle.soda_checks.specs.Conditions.{has_wrong_tile, is_same_tile, is_tile, wrong_tile}
 use Rattle.soda_checks.specs.Outline.{outline_in, outline_of}
 use Rattle.soda_checks.specs.declared.outline.Defined.{Defined}
@@ -19,9 +19,9 @@ use Rattle.soda_parse.specs.Meaning.{tile_items}
 use Rattle.soda_parse.specs.Text.{count_refusal, late_refusal, names_refusal, refusal_by, shape_refusal, size_refusal, statement_refusal, use_refusal}
 use Rattle.soda_print.specs.Sized.{IsSizedProgram}
 use Rattle.soda_print.proofs.Readable.{positive}
-use Rattle.soda_syntax.specs.declared.statement.Extent.{Extent}
-use Rattle.soda_syntax.specs.declared.statement.Extent.TheVariants.{Fixed, Open}
-use Rattle.soda_syntax.specs.declared.statement.InputLine.{InputLine}
+use Rattle.soda_formula.specs.declared.statement.Extent.{Extent}
+use Rattle.soda_formula.specs.declared.statement.Extent.TheVariants.{Fixed, Open}
+use Rattle.soda_formula.specs.declared.statement.InputLine.{InputLine}
 use Rattle.soda_parse.proofs.FineNames.{are_tensors, dims_are, names_fine, uses_fine}
 use Rattle.soda_parse.proofs.FineSites.{far_none, nonzero}
 use Rattle.soda_parse.proofs.Kept.{KeepsNames, KeepsRest, KeepsShape, KeepsSizes}

@@ -3,7 +3,7 @@ use Rattle.std.proofs.Common.{◌≡◌, ℕ, suc, ◌<◌, ◌==◌, ◌&&◌, 
 use Rattle.std.specs.Prelude.{find, slice_get, unsigned_abs}
 use Rattle.std.specs.List.{list_all}
 use Rattle.std.proofs.lemmas.Bool.Decides.{nat_tests}
-use Rattle.int_types.specs.IntType.{IntType, IsType}
+use Rattle.soda_words.specs.IntType.{IntType, IsType}
 use Rattle.soda_checks.specs.Conditions.{is_tensor}
 use Rattle.soda_checks.specs.Outline.{casts_in, outline_in, outline_of, uses_in}
 use Rattle.soda_checks.specs.declared.outline.Outline.{Outline}
@@ -17,7 +17,7 @@ use Rattle.soda_ir.specs.Valid.{has_good_uses, is_good_param}
 use Rattle.soda_parse.specs.Limits.{far_from, first_past, site_magnitudes}
 use Rattle.soda_print.specs.Canonical.{indexes, tensor_name, type_text}
 use Rattle.soda_print.specs.Sized.{AreSizedParams, AreSizedTensors, IsSized}
-use Rattle.soda_syntax.specs.declared.statement.Size.{Size}
+use Rattle.soda_formula.specs.declared.statement.Size.{Size}
 use Rattle.soda_words.specs.Tokens.{or_else}
 use Rattle.soda_words.specs.declared.token.Word.{Word}
 use Rattle.soda_parse.proofs.ReadBack.{IsCellThere, cell_there, shifted_zeros, sizes_on}

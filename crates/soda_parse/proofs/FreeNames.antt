@@ -8,9 +8,9 @@ use Rattle.soda_checks.specs.declared.outline.Outline.{Outline}
 use Rattle.soda_checks.specs.declared.outline.Defined.{Defined}
 use Rattle.soda_ir.specs.Valid.{are_free_names}
 use Rattle.soda_parse.proofs.SameTypes.{both_of}
-use Rattle.soda_syntax.specs.Statements.{PlainStatement, kernel, burst_width, unroll_factor, iterate, border, cluster, param, input, local, output}
-use Rattle.soda_syntax.specs.declared.statement.InputLine.{InputLine}
-use Rattle.soda_syntax.specs.declared.statement.ParamLine.{ParamLine}
+use Rattle.soda_formula.specs.Statements.{PlainStatement, kernel, burst_width, unroll_factor, iterate, border, cluster, param, input, local, output}
+use Rattle.soda_formula.specs.declared.statement.InputLine.{InputLine}
+use Rattle.soda_formula.specs.declared.statement.ParamLine.{ParamLine}
 use Rattle.std.proofs.Math.Dec.{eqb-suc-zero}
 use Rattle.soda_words.specs.Names.{behind, is_free_name, is_name, is_reserved, is_word}
 use Rattle.soda_words.specs.declared.token.Word.{Word}

@@ -5,7 +5,7 @@ use Rattle.std.specs.Prelude.{find, flat_map, nat_lt}
 use Rattle.std.specs.List.{list_all}
 use Rattle.std.proofs.lemmas.List.Folds.{list_all-append}
 use Rattle.std.proofs.lemmas.Bool.Decides.{nat_tests}
-use Rattle.soda_syntax.specs.declared.statement.InputLine.{InputLine}
+use Rattle.soda_formula.specs.declared.statement.InputLine.{InputLine}
 use Rattle.soda_checks.specs.Conditions.{has_wrong_dims, is_wrong_site, site_line}
 use Rattle.soda_checks.specs.Outline.{outline_of}
 use Rattle.soda_checks.specs.declared.outline.Outline.{Outline}
@@ -30,7 +30,7 @@ use Rattle.soda_parse.specs.Meaning.{fixed_in, input_of, program_by, tensors_in,
 use Rattle.soda_parse.specs.Limits.{circular}
 use Rattle.soda_parse.specs.Text.{count_refusal, late_refusal, names_refusal, refusal_by, shape_refusal, size_refusal, statement_refusal, use_refusal}
 use Rattle.soda_parse.specs.declared.refusal.Refusal.{Refusal}
-use Rattle.soda_syntax.specs.Statements.{PlainStatement}
+use Rattle.soda_formula.specs.Statements.{PlainStatement}
 use Rattle.soda_syntax.specs.SyntaxError.{IsSyntax}
 use Rattle.soda_words.specs.Tokens.{tokens_of}
 

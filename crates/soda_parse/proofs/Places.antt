@@ -25,8 +25,8 @@ use Rattle.soda_parse.proofs.Kept.{none_first, none_second}
 use Rattle.soda_parse.proofs.SameTypes.{both_of}
 use Rattle.soda_parse.proofs.Tiling.{false_not, none_here}
 use Rattle.soda_parse.proofs.Uses.{FineCells, Fits, fine_first, fine_second, good_read, none_in_both}
-use Rattle.soda_syntax.specs.declared.statement.ParamLine.{ParamLine}
-use Rattle.soda_syntax.specs.declared.statement.Size.{Size}
+use Rattle.soda_formula.specs.declared.statement.ParamLine.{ParamLine}
+use Rattle.soda_formula.specs.declared.statement.Size.{Size}
 use Rattle.soda_words.specs.declared.token.Word.{Word}
 
 not_past : (n : ℕ) → nat_lt 65536 n ≡ false → n ≤ 65536

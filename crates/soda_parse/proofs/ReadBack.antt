@@ -5,7 +5,7 @@ use Rattle.std.proofs.lemmas.Bool.Decides.{nat_tests}
 use Rattle.std.proofs.lemmas.Int.{ints}
 use Rattle.std.proofs.lemmas.Nat.{div_below}
 use Rattle.std.proofs.Math.Nat.{mul_comm, mul-one}
-use Rattle.int_types.specs.IntType.{IntType, IsType}
+use Rattle.soda_words.specs.IntType.{IntType, IsType}
 use Rattle.soda_print.specs.Sized.{IsSized}
 use Rattle.soda_checks.specs.Conditions.{are_below}
 use Rattle.soda_checks.specs.Outline.{is_same}
@@ -16,8 +16,8 @@ use Rattle.soda_ir.specs.Program.{PlainParam, PlainProgram}
 use Rattle.soda_ir.specs.Uses.{each_use, is_good_cell, is_good_place, is_near}
 use Rattle.soda_parse.specs.Meaning.{cell_formula, formula_of as meant, named_value, offset_or_none, place_at, place_of, shifted, tensor_number}
 use Rattle.soda_print.specs.Canonical.{indexes, tensor_name}
-use Rattle.soda_syntax.specs.declared.statement.ParamLine.{ParamLine}
-use Rattle.soda_syntax.specs.declared.statement.Size.{Size}
+use Rattle.soda_formula.specs.declared.statement.ParamLine.{ParamLine}
+use Rattle.soda_formula.specs.declared.statement.Size.{Size}
 use Rattle.soda_words.specs.declared.token.Word.{Word}
 use Rattle.soda_words.specs.Names.{is_word}
 use Rattle.soda_parse.proofs.SameTypes.{both_of}

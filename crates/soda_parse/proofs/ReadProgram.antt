@@ -17,7 +17,7 @@ use Rattle.soda_parse.specs.Meaning.{border_of, fixed_in, input_of, param_of, pr
 use Rattle.soda_print.specs.Canonical.{tensor_name}
 use Rattle.soda_print.specs.Sized.{AreSizedParams, AreSizedTensors, IsSized, IsSizedProgram}
 use Rattle.soda_print.proofs.Readable.{count_there}
-use Rattle.soda_syntax.specs.declared.statement.ParamLine.{ParamLine}
+use Rattle.soda_formula.specs.declared.statement.ParamLine.{ParamLine}
 use Rattle.soda_parse.proofs.SameTypes.{both_of}
 use Rattle.soda_parse.proofs.Back.{AreBack, AreTyped, IsBack, fixed_back, number_is, outline_names, outline_params, outline_tensors, outline_tile, param_lines, params_back, tensor_names}
 use Rattle.soda_parse.proofs.Lookups.{Fresh, fresh, fresh_back, fresh_front, place_there}

@@ -2,7 +2,7 @@
 use Rattle.std.proofs.Common.{◌≡◌, ℕ, suc, Bool, true, not, List, [], ◌∷◌, ◌++◌, map, Some, None, Option, ℤ, pos}
 use Rattle.std.specs.Prelude.{slice_get}
 use Rattle.std.specs.List.{list_all}
-use Rattle.int_types.specs.IntType.{IntType}
+use Rattle.soda_words.specs.IntType.{IntType}
 use Rattle.soda_formula.specs.Terms.{Term, literal, cell, value, unary as unary_term, binary as binary_term, choice as choice_term, cast as cast_term}
 use Rattle.soda_ir.specs.Counts.{is_input_role}
 use Rattle.soda_ir.specs.Formula.{Formula, number, read, param as value_of, unary, binary, choice, cast}
@@ -11,11 +11,11 @@ use Rattle.soda_ir.specs.Valid.{has_formula_if_no_input, has_inputs_first}
 use Rattle.soda_ir.specs.declared.program.Role.{Role}
 use Rattle.soda_ir.specs.declared.program.Role.TheVariants.{Input, Local, Output}
 use Rattle.soda_print.specs.Canonical.{indexes, tensor_name, type_text}
-use Rattle.soda_syntax.specs.Statements.{PlainFormulaLine, PlainStatement, kernel, burst_width, unroll_factor, iterate, border, param, input, local, output}
-use Rattle.soda_syntax.specs.declared.statement.Extent.{Extent}
-use Rattle.soda_syntax.specs.declared.statement.Extent.TheVariants.{Fixed, Open}
-use Rattle.soda_syntax.specs.declared.statement.InputLine.{InputLine}
-use Rattle.soda_syntax.specs.declared.statement.ParamLine.{ParamLine}
+use Rattle.soda_formula.specs.Statements.{PlainFormulaLine, PlainStatement, kernel, burst_width, unroll_factor, iterate, border, param, input, local, output}
+use Rattle.soda_formula.specs.declared.statement.Extent.{Extent}
+use Rattle.soda_formula.specs.declared.statement.Extent.TheVariants.{Fixed, Open}
+use Rattle.soda_formula.specs.declared.statement.InputLine.{InputLine}
+use Rattle.soda_formula.specs.declared.statement.ParamLine.{ParamLine}
 use Rattle.soda_words.specs.declared.token.Word.{Word}
 use Rattle.soda_parse.proofs.SameTypes.{both_of}
 

@@ -4,9 +4,9 @@ use Rattle.std.specs.Prelude.{flat_map}
 use Rattle.soda_checks.specs.Outline.{outline_in, outline_of}
 use Rattle.soda_checks.specs.declared.outline.Outline.{Outline}
 use Rattle.soda_parse.specs.Meaning.{input_of, param_of, tensors_in}
-use Rattle.soda_syntax.specs.Statements.{PlainStatement, kernel, burst_width, unroll_factor, iterate, border, cluster, param, input, local, output}
-use Rattle.soda_syntax.specs.declared.statement.InputLine.{InputLine}
-use Rattle.soda_syntax.specs.declared.statement.ParamLine.{ParamLine}
+use Rattle.soda_formula.specs.Statements.{PlainStatement, kernel, burst_width, unroll_factor, iterate, border, cluster, param, input, local, output}
+use Rattle.soda_formula.specs.declared.statement.InputLine.{InputLine}
+use Rattle.soda_formula.specs.declared.statement.ParamLine.{ParamLine}
 
 defined_texts : (o : Outline) (ss : List PlainStatement) → map (λ t. t.name) (flat_map (tensors_in o) ss) ≡ map (λ d. d.name.text) (outline_of ss).defined
 unfolding outline_of outline_in

@@ -8,9 +8,9 @@ use Rattle.soda_checks.specs.declared.outline.Outline.{Outline}
 use Rattle.soda_parse.specs.Meaning.{fixed_in, tile_items}
 use Rattle.soda_parse.proofs.SameTypes.{both_of}
 use Rattle.soda_words.specs.Tokens.{or_else}
-use Rattle.soda_syntax.specs.declared.statement.Extent.{Extent}
-use Rattle.soda_syntax.specs.declared.statement.Extent.TheVariants.{Fixed, Open}
-use Rattle.soda_syntax.specs.declared.statement.InputLine.{InputLine}
+use Rattle.soda_formula.specs.declared.statement.Extent.{Extent}
+use Rattle.soda_formula.specs.declared.statement.Extent.TheVariants.{Fixed, Open}
+use Rattle.soda_formula.specs.declared.statement.InputLine.{InputLine}
 
 -- nothing is found at the front of a list, nor behind it
 pub none_here : {A : Type 0} (test : A → Bool) (x : A) (xs : List A) → find test (x ∷ xs) ≡ None → (test x ≡ false) × (find test xs ≡ None)

@@ -4,8 +4,7 @@ use Rattle.std.specs.Prelude.{option_map, unwrap_or, if◌then◌else◌}
 use Rattle.std.specs.Fmt.{decimal}
 use Rattle.std.proofs.lemmas.Bool.Decides.{nat_tests}
 use Rattle.std.proofs.lemmas.Fmt.{digits_value-decimal}
-use Rattle.int_types.specs.IntType.{IntType, IsType}
-use Rattle.int_types.specs.Operators.{int32}
+use Rattle.soda_words.specs.IntType.{IntType, IsType, int32}
 use Rattle.soda_checks.specs.Types.{is_float, type_behind, type_of, width_of}
 use Rattle.soda_print.specs.Canonical.{type_text}
 use Rattle.soda_print.proofs.Tokens.{number_is, own}

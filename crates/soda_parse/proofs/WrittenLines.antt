@@ -4,7 +4,7 @@ use Rattle.std.specs.Prelude.{slice_get, if◌then◌else◌}
 use Rattle.std.specs.Fmt.{decimal}
 use Rattle.std.specs.List.{list_all}
 use Rattle.std.proofs.lemmas.Bool.Decides.{nat_tests}
-use Rattle.int_types.specs.IntType.{IntType}
+use Rattle.soda_words.specs.IntType.{IntType}
 use Rattle.soda_formula.specs.Grammar.{symbol_on, name_on, IsComponent, ahead, AreOffsets, InRound, AreParted}
 use Rattle.soda_ir.specs.Formula.{Formula}
 use Rattle.soda_ir.specs.Program.{PlainParam, PlainProgram, PlainTensor}
@@ -20,8 +20,8 @@ use Rattle.soda_print.proofs.Tokenized.{formula_tokens, index_tokens, listed_tok
 use Rattle.soda_syntax.specs.Grammar.{IsExtent, a_number, a_star, AreSizes, no_size, size_before, no_bank, MayBeType, a_tile, IsLeftSide, IsLocalHead, IsOutputHead, IsStatement, a_kernel, a_burst_width, an_unroll_factor, an_iterate, ignored_border, preserved_border, a_param, an_input as an_input_line, a_local as a_local_line, an_output as an_output_line}
 use Rattle.soda_syntax.proofs.SmallLines.{AreSmallStatements, none_small, small_before, IsSmallFormula, IsSmallLine, formula_small, plain_small, small_syntax}
 use Rattle.soda_syntax.specs.SyntaxError.{IsHead, IsSyntax}
-use Rattle.soda_syntax.specs.Statements.{border, param, input, local, output}
-use Rattle.soda_syntax.specs.declared.statement.Extent.TheVariants.{Fixed, Open}
+use Rattle.soda_formula.specs.Statements.{border, param, input, local, output}
+use Rattle.soda_formula.specs.declared.statement.Extent.TheVariants.{Fixed, Open}
 use Rattle.soda_words.specs.Names.{is_name, is_reserved, is_word}
 use Rattle.soda_words.specs.declared.symbol.Symbol.TheVariants.{Star, Colon, EqualSign}
 use Rattle.soda_words.specs.declared.token.Placed.{Placed}

@@ -1,8 +1,7 @@
 -- The program that statements stand for.
 use Rattle.std.specs.Prelude.{ℕ, ◌+◌, ◌*◌, ◌^◌, Bool, true, false, ◌&&◌, nat_le, nat_lt, List, [], ◌∷◌, ◌++◌, map, length, Option, Some, None, option_map, unwrap_or, find, flat_map, filter_map, position, slice_get, if◌then◌else◌, ℤ, ◌-ℤ◌, unsigned_abs}
 use Rattle.std.specs.List.{list_all}
-use Rattle.int_types.specs.IntType.{IntType}
-use Rattle.int_types.specs.Operators.{int32}
+use Rattle.soda_words.specs.IntType.{IntType, int32}
 use Rattle.soda_checks.specs.Conditions.{are_below, first_by, first_tile}
 use Rattle.soda_checks.specs.Outline.{is_same, outline_of}
 use Rattle.soda_checks.specs.Types.{type_of}
@@ -15,12 +14,12 @@ use Rattle.soda_ir.specs.declared.program.Border.{Border}
 use Rattle.soda_ir.specs.declared.program.Border.TheVariants.{Ignore, Preserve}
 use Rattle.soda_ir.specs.declared.program.Role.{Role}
 use Rattle.soda_ir.specs.declared.program.Role.TheVariants.{Input, Local, Output}
-use Rattle.soda_syntax.specs.Statements.{PlainStatement, PlainFormulaLine, kernel, local, output}
-use Rattle.soda_syntax.specs.declared.statement.Extent.{Extent}
-use Rattle.soda_syntax.specs.declared.statement.Extent.TheVariants.{Fixed, Open}
-use Rattle.soda_syntax.specs.declared.statement.InputLine.{InputLine}
-use Rattle.soda_syntax.specs.declared.statement.ParamLine.{ParamLine}
-use Rattle.soda_syntax.specs.declared.statement.Size.{Size}
+use Rattle.soda_formula.specs.Statements.{PlainStatement, PlainFormulaLine, kernel, local, output}
+use Rattle.soda_formula.specs.declared.statement.Extent.{Extent}
+use Rattle.soda_formula.specs.declared.statement.Extent.TheVariants.{Fixed, Open}
+use Rattle.soda_formula.specs.declared.statement.InputLine.{InputLine}
+use Rattle.soda_formula.specs.declared.statement.ParamLine.{ParamLine}
+use Rattle.soda_formula.specs.declared.statement.Size.{Size}
 use Rattle.soda_words.specs.Tokens.{or_else}
 use Rattle.soda_words.specs.declared.token.Word.{Word}
 

@@ -11,7 +11,7 @@ use Rattle.soda_parse.specs.Limits.{unless_within, circular, iterate_mismatch, p
 use Rattle.soda_parse.specs.Meaning.{program_by, tile_items}
 use Rattle.soda_parse.specs.declared.refusal.Refusal.{Refusal}
 use Rattle.soda_parse.specs.declared.refusal.Refusal.TheVariants.{TextTooLong, NotAscii, Syntax, Missing, Twice, FloatType, BadWidth, NameTwice, UnknownName, WrongDims, Circular, IterateMismatch, PreserveMismatch, Tile, Limit, BurstWidth, ParamUse}
-use Rattle.soda_syntax.specs.Statements.{PlainStatement}
+use Rattle.soda_formula.specs.Statements.{PlainStatement}
 use Rattle.soda_syntax.specs.SyntaxError.{IsSyntax, IsSyntaxError}
 use Rattle.soda_words.specs.Tokens.{not_ascii, or_else, tokens_of}
 

@@ -8,12 +8,10 @@ ghost use Rattle.soda_parse.specs.Meaning.{cell_formula, formula_of, int_type, o
 
 use crate::NoMemory;
 use arrayvec::ArrayVec;
-use int_types::{Ty, int32};
+use soda_words::{Ty, int32, Word};
 use soda_checks::{Names, Outline, are_below, param_of, type_of};
-use soda_formula::Written;
+use soda_formula::{Written, Size};
 use soda_ir::{Expr, Offset};
-use soda_syntax::Size;
-use soda_words::Word;
 use sqlite_items::Boxed;
 use std::alloc::Global;
 
@@ -193,19 +191,24 @@ pub(crate) fn make_formula(
         }
         Written::Unary(op, a) => {
             let a = make_formula(alloc, outline, names, left, a.get())?;
-            Ok(Expr::Un(*op, Boxed::new(alloc, a)?))
+            let a = Boxed::new(alloc, a)?;
+            Ok(Expr::Un(*op, a))
         }
         Written::Binary(op, a, b) => {
             let a = make_formula(alloc, outline, names, left, a.get())?;
+            let a = Boxed::new(alloc, a)?;
             let b = make_formula(alloc, outline, names, left, b.get())?;
-            Ok(Expr::Bin(*op, Boxed::new(alloc, a)?, Boxed::new(alloc, b)?))
+            let b = Boxed::new(alloc, b)?;
+            Ok(Expr::Bin(*op, a, b))
         }
         Written::Choice(c, a, b) => {
             let c = make_formula(alloc, outline, names, left, c.get())?;
-            let a = make_formula(alloc, outline, names, left, a.get())?;
-            let b = make_formula(alloc, outline, names, left, b.get())?;
             let c = Boxed::new(alloc, c)?;
-            Ok(Expr::Select(c, Boxed::new(alloc, a)?, Boxed::new(alloc, b)?))
+            let a = make_formula(alloc, outline, names, left, a.get())?;
+            let a = Boxed::new(alloc, a)?;
+            let b = make_formula(alloc, outline, names, left, b.get())?;
+            let b = Boxed::new(alloc, b)?;
+            Ok(Expr::Select(c, a, b))
         }
         Written::Cast(word, a) => {
             let a = make_formula(alloc, outline, names, left, a.get())?;

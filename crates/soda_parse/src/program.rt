@@ -4,13 +4,13 @@ ghost use Rattle.soda_checks.specs.Conditions.{first_by};
 ghost use Rattle.soda_checks.specs.Names.{names_of};
 ghost use Rattle.soda_ir.specs.Program.{plain, plain_param, plain_tensor};
 ghost use Rattle.soda_parse.specs.Meaning.{border_of, first_or, fixed_in, input_of, kernel_in, param_of, program_by, tensor_of, tensors_in, tile_items};
-ghost use Rattle.soda_syntax.specs.Statements.{plain_line, plain_statement};
+ghost use Rattle.soda_formula.specs.Statements.{plain_line, plain_statement};
 
 use crate::NoMemory;
 use crate::formulas::{int_type, make_formula};
 use soda_checks::{Names, Outline, first_tile};
 use soda_ir::{Border, Param, Parts, Role, Tensor};
-use soda_syntax::{Extent, FormulaLine, InputLine, ParamLine, Size, Statement};
+use soda_formula::{Extent, FormulaLine, InputLine, ParamLine, Size, Statement};
 use soda_words::Word;
 use sqlite_items::Items;
 use std::alloc::Global;

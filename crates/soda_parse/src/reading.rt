@@ -1,4 +1,5 @@
 ghost use Rattle.std.specs.Prelude.{◌≡◌, ◌<◌, ◌≤◌, ◌^◌, None, length, map, IfOk};
+ghost use Rattle.soda_checks.specs.Names.{names_of};
 ghost use Rattle.soda_checks.specs.Outline.{outline_of};
 ghost use Rattle.soda_ir.specs.Program.{PlainProgram, plain};
 ghost use Rattle.soda_ir.specs.Valid.{IsValid};
@@ -6,16 +7,17 @@ ghost use Rattle.soda_parse.specs.Fails.{IfRefused, unread};
 ghost use Rattle.soda_parse.specs.Meaning.{program_by};
 ghost use Rattle.soda_parse.specs.Text.{Accepts, Refuses, refusal_by};
 ghost use Rattle.soda_parse.specs.declared.refusal.Refusal.{Refusal as Cause};
-ghost use Rattle.soda_syntax.specs.Statements.{plain_statement};
+ghost use Rattle.soda_formula.specs.Statements.{plain_statement};
 ghost use Rattle.soda_syntax.specs.SyntaxError.{IsSyntax};
 ghost use Rattle.soda_words.specs.Tokens.{not_ascii, tokens_of};
 
 use crate::program::make_parts;
 use crate::refusing::refusal_by;
 use crate::{NoMemory, Refusal};
-use soda_checks::{make_names, make_outline};
+use soda_checks::{Names, Outline, make_names, make_outline};
 use soda_ir::{MakeRefusal, Parts, Program};
-use soda_syntax::{Statement, SyntaxFail, read_statements};
+use soda_formula::Statement;
+use soda_syntax::{SyntaxFail, read_statements};
 use soda_words::not_ascii;
 use std::alloc::Global;
 
@@ -52,12 +54,55 @@ fn judge(alloc: Global, text: &[u8], statements: &[Statement]) -> Result<Judged,
     ensures parts { IfOk result (λ judged. plain judged.parts ≡ program_by (outline_of (map plain_statement statements.now)) (map plain_statement statements.now)) }
     ensures refusal { IfOk result (λ judged. judged.refusal ≡ refusal_by (outline_of (map plain_statement statements.now)) (plain judged.parts)) }
 {
-    let _ = text;
     let outline = make_outline(alloc, statements)?;
-    let names = make_names(alloc, &outline)?;
-    let parts = make_parts(alloc, &outline, &names, statements)?;
-    let refusal = refusal_by(alloc, &outline, &names, &parts)?;
-    Ok(Judged { parts, refusal })
+    let judged = judge_by(alloc, text, statements, &outline);
+    drop(outline);
+    judged
+}
+
+// The same, by the outline of the statements.
+fn judge_by(
+    alloc: Global,
+    text: &[u8],
+    statements: &[Statement],
+    outline: &Outline,
+) -> Result<Judged, NoMemory>
+    requires short { length text.now < 2 ^ 32 }
+    requires syntax { IsSyntax (tokens_of text.now) (map plain_statement statements.now) }
+    requires outline { outline.now ≡ outline_of (map plain_statement statements.now) }
+    ensures parts { IfOk result (λ judged. plain judged.parts ≡ program_by outline.now (map plain_statement statements.now)) }
+    ensures refusal { IfOk result (λ judged. judged.refusal ≡ refusal_by outline.now (plain judged.parts)) }
+{
+    let names = make_names(alloc, outline)?;
+    let judged = judge_named(alloc, text, statements, outline, &names);
+    drop(names);
+    judged
+}
+
+// The same, by the names in the outline.
+fn judge_named(
+    alloc: Global,
+    text: &[u8],
+    statements: &[Statement],
+    outline: &Outline,
+    names: &Names,
+) -> Result<Judged, NoMemory>
+    requires short { length text.now < 2 ^ 32 }
+    requires syntax { IsSyntax (tokens_of text.now) (map plain_statement statements.now) }
+    requires outline { outline.now ≡ outline_of (map plain_statement statements.now) }
+    requires names { names.now ≡ names_of outline.now }
+    ensures parts { IfOk result (λ judged. plain judged.parts ≡ program_by outline.now (map plain_statement statements.now)) }
+    ensures refusal { IfOk result (λ judged. judged.refusal ≡ refusal_by outline.now (plain judged.parts)) }
+{
+    let _ = text;
+    let parts = make_parts(alloc, outline, names, statements)?;
+    match refusal_by(alloc, outline, names, &parts) {
+        Ok(refusal) => Ok(Judged { parts, refusal }),
+        Err(fail) => {
+            drop(parts);
+            Err(fail)
+        }
+    }
 }
 
 // The program that the statements of a text stand for, or why it is refused.

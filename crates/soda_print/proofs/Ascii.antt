@@ -4,10 +4,10 @@ use Rattle.std.specs.Fmt.{decimal, signed_decimal}
 use Rattle.std.specs.List.{list_all}
 use Rattle.std.proofs.lemmas.Bool.Decides.{nat_tests}
 use Rattle.std.proofs.lemmas.Fmt.{digits_decimal}
-use Rattle.int_types.specs.declared.operators.UnOp.{UnOp}
-use Rattle.int_types.specs.declared.operators.UnOp.TheVariants.{Plus, Minus, Flip, Not, Abs}
-use Rattle.int_types.specs.declared.operators.BinOp.{BinOp}
-use Rattle.int_types.specs.declared.operators.BinOp.TheVariants.{LogOr, LogAnd, BitOr, BitXor, BitAnd, Eq, Ne, Lt, Le, Gt, Ge, Add, Sub, Mul, Div, Rem, Min, Max}
+use Rattle.soda_words.specs.declared.operators.UnOp.{UnOp}
+use Rattle.soda_words.specs.declared.operators.UnOp.TheVariants.{Plus, Minus, Flip, Not, Abs}
+use Rattle.soda_words.specs.declared.operators.BinOp.{BinOp}
+use Rattle.soda_words.specs.declared.operators.BinOp.TheVariants.{LogOr, LogAnd, BitOr, BitXor, BitAnd, Eq, Ne, Lt, Le, Gt, Ge, Add, Sub, Mul, Div, Rem, Min, Max}
 use Rattle.soda_ir.specs.Formula.{Formula, number, read, param, unary, binary, choice, cast}
 use Rattle.soda_ir.specs.Program.{PlainParam, PlainProgram, PlainTensor}
 use Rattle.soda_ir.specs.Written.{left_pairs, operand_pairs, right_pairs}
@@ -15,7 +15,7 @@ use Rattle.soda_words.specs.Names.{begins_name, is_digit, is_letter, is_name, is
 use Rattle.soda_words.specs.Tokens.{in_comment_behind, line_behind, not_ascii, not_ascii_from}
 use Rattle.soda_print.specs.Canonical.{behind_commas, binary_text, binary_word, border_word, canonical, canonical_lines, ended, formula_text, headed, in_pairs, indexes, indexes_text, left_text, listed, param_line, parted, role_word, setting_lines, tensor_line, tensor_name, tile_text, type_text, unary_text, unary_word, value_text}
 use Rattle.soda_print.proofs.Read.{AreParams, AreSettings, AreTensors, IsBody, IsReadBack, border_named, role_named}
-use Rattle.int_types.specs.IntType.{IntType}
+use Rattle.soda_words.specs.IntType.{IntType}
 use Rattle.soda_print.proofs.Tokens.{are_word_bytes, both, digits_words, first, own, second}
 use Rattle.soda_print.proofs.Tokenized.{AreSmall, AreWords, IsValueThere, IsWritable, value_is}
 

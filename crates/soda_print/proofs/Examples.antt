@@ -1,9 +1,9 @@
 -- The canonical texts of a program and of formulas, by computation.
 use Rattle.std.proofs.Common.{◌≡◌, ℕ, true, false, List, [], ◌∷◌, Some, None, ℤ, pos, negsuc, codes, refl}
 use Rattle.std.specs.Fmt.{digits}
-use Rattle.int_types.specs.IntType.{IntType}
-use Rattle.int_types.specs.declared.operators.UnOp.TheVariants.{Plus, Minus, Flip, Not, Abs}
-use Rattle.int_types.specs.declared.operators.BinOp.TheVariants.{LogOr, LogAnd, BitOr, BitXor, BitAnd, Eq, Lt, Add, Sub, Mul, Div, Rem, Min, Max}
+use Rattle.soda_words.specs.IntType.{IntType}
+use Rattle.soda_words.specs.declared.operators.UnOp.TheVariants.{Plus, Minus, Flip, Not, Abs}
+use Rattle.soda_words.specs.declared.operators.BinOp.TheVariants.{LogOr, LogAnd, BitOr, BitXor, BitAnd, Eq, Lt, Add, Sub, Mul, Div, Rem, Min, Max}
 use Rattle.soda_ir.specs.Formula.{Formula, number, read, param, unary, binary, choice, cast}
 use Rattle.soda_ir.specs.Program.{PlainProgram}
 use Rattle.soda_ir.specs.declared.program.Border.TheVariants.{Ignore, Preserve}

@@ -1,7 +1,7 @@
 -- An operator's text is put together from what stands round its operands.
 use Rattle.std.proofs.Common.{◌≡◌, ℕ, Bool, true, false, ◌==◌, List, [], ◌∷◌, ◌++◌, refl, codes, append-nil, append_assoc, if◌then◌else◌}
-use Rattle.int_types.specs.declared.operators.UnOp.{UnOp}
-use Rattle.int_types.specs.declared.operators.BinOp.{BinOp}
+use Rattle.soda_words.specs.declared.operators.UnOp.{UnOp}
+use Rattle.soda_words.specs.declared.operators.BinOp.{BinOp}
 use Rattle.soda_ir.specs.Written.{binary_level, unary_level}
 use Rattle.soda_ir.proofs.Tree.{levels}
 use Rattle.soda_print.specs.Canonical.{binary_text, binary_word, opening, closing, listed, unary_text, unary_word}

@@ -1,7 +1,7 @@
 -- The tokens of a canonical text.
 use Rattle.std.proofs.Common.{◌≡◌, ℕ, suc, ◌<◌, ◌^◌, true, List, [], ◌∷◌, ◌++◌, map, Option, Some, None, refl, ap, ◌∙◌, append_assoc, codes, subst, lit<}
 use Rattle.std.specs.Fmt.{decimal, digits}
-use Rattle.int_types.specs.IntType.{IntType}
+use Rattle.soda_words.specs.IntType.{IntType}
 use Rattle.soda_ir.specs.Formula.{Formula}
 use Rattle.soda_ir.specs.Program.{PlainParam, PlainProgram, PlainTensor}
 use Rattle.soda_ir.specs.declared.program.Border.{Border}

@@ -5,11 +5,11 @@ use Rattle.std.specs.List.{list_all}
 use Rattle.std.proofs.lemmas.Bool.Decides.{nat_tests}
 use Rattle.std.proofs.lemmas.Fmt.{length-decimal-le}
 use Rattle.std.proofs.lemmas.List.Sums.{sum_by-cons}
-use Rattle.int_types.specs.IntType.{IntType}
-use Rattle.int_types.specs.declared.operators.UnOp.{UnOp}
-use Rattle.int_types.specs.declared.operators.UnOp.TheVariants.{Plus, Minus, Flip, Not, Abs}
-use Rattle.int_types.specs.declared.operators.BinOp.{BinOp}
-use Rattle.int_types.specs.declared.operators.BinOp.TheVariants.{LogOr, LogAnd, BitOr, BitXor, BitAnd, Eq, Ne, Lt, Le, Gt, Ge, Add, Sub, Mul, Div, Rem, Min, Max}
+use Rattle.soda_words.specs.IntType.{IntType}
+use Rattle.soda_words.specs.declared.operators.UnOp.{UnOp}
+use Rattle.soda_words.specs.declared.operators.UnOp.TheVariants.{Plus, Minus, Flip, Not, Abs}
+use Rattle.soda_words.specs.declared.operators.BinOp.{BinOp}
+use Rattle.soda_words.specs.declared.operators.BinOp.TheVariants.{LogOr, LogAnd, BitOr, BitXor, BitAnd, Eq, Ne, Lt, Le, Gt, Ge, Add, Sub, Mul, Div, Rem, Min, Max}
 use Rattle.soda_ir.specs.Formula.{Formula, number, read, param, unary, binary, choice, cast}
 use Rattle.soda_ir.specs.Points.{size}
 use Rattle.soda_ir.specs.Program.{PlainParam, PlainProgram, PlainTensor}

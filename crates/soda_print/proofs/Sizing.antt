@@ -1,7 +1,7 @@
 -- Params and tensors that are sized one by one.
 use Rattle.std.proofs.Common.{◌≡◌, ℕ, ◌+◌, ◌<◌, List, [], ◌∷◌, ◌++◌, length, take, get_or, map, sym, ap, ◌∙◌, subst}
 use Rattle.std.proofs.lemmas.List.{take_more}
-use Rattle.int_types.specs.IntType.{IsType}
+use Rattle.soda_words.specs.IntType.{IsType}
 use Rattle.soda_ir.specs.Program.{plain_param, plain_tensor}
 use Rattle.soda_ir.specs.declared.program.Param.{Param}
 use Rattle.soda_ir.specs.declared.program.Tensor.{Tensor}

@@ -1,11 +1,11 @@
 -- The canonical text of a program.
 use Rattle.std.specs.Prelude.{ℕ, ◌/◌, ◌%◌, ◌==◌, List, [], ◌∷◌, ◌++◌, map, flat_map, codes, Some, None, slice_get, if◌then◌else◌}
 use Rattle.std.specs.Fmt.{decimal, signed_decimal}
-use Rattle.int_types.specs.IntType.{IntType}
-use Rattle.int_types.specs.declared.operators.UnOp.{UnOp}
-use Rattle.int_types.specs.declared.operators.UnOp.TheVariants.{Plus, Minus, Flip, Not, Abs}
-use Rattle.int_types.specs.declared.operators.BinOp.{BinOp}
-use Rattle.int_types.specs.declared.operators.BinOp.TheVariants.{LogOr, LogAnd, BitOr, BitXor, BitAnd, Eq, Ne, Lt, Le, Gt, Ge, Add, Sub, Mul, Div, Rem, Min, Max}
+use Rattle.soda_words.specs.IntType.{IntType}
+use Rattle.soda_words.specs.declared.operators.UnOp.{UnOp}
+use Rattle.soda_words.specs.declared.operators.UnOp.TheVariants.{Plus, Minus, Flip, Not, Abs}
+use Rattle.soda_words.specs.declared.operators.BinOp.{BinOp}
+use Rattle.soda_words.specs.declared.operators.BinOp.TheVariants.{LogOr, LogAnd, BitOr, BitXor, BitAnd, Eq, Ne, Lt, Le, Gt, Ge, Add, Sub, Mul, Div, Rem, Min, Max}
 use Rattle.soda_ir.specs.Formula.{Formula, number, read, param, unary, binary, choice, cast}
 use Rattle.soda_ir.specs.Program.{PlainParam, PlainProgram, PlainTensor}
 use Rattle.soda_ir.specs.Written.{binary_level, left_pairs, operand_pairs, right_pairs, unary_level}

@@ -1,6 +1,6 @@
 -- What any program that the code holds keeps: its numbers fit their types, and its types are allowed ones.
 use Rattle.std.specs.Prelude.{◌^◌, ◌<◌, List, [], ◌∷◌, Some, None}
-use Rattle.int_types.specs.IntType.{IsType}
+use Rattle.soda_words.specs.IntType.{IsType}
 use Rattle.soda_ir.specs.Formula.{Formula, number, read, param, unary, binary, choice, cast}
 use Rattle.soda_ir.specs.Program.{PlainParam, PlainProgram, PlainTensor}
 

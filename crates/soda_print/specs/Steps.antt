@@ -1,7 +1,7 @@
 -- What stands round the operands of an operator, piece by piece.
 use Rattle.std.specs.Prelude.{ℕ, ◌==◌, List, ◌++◌, codes, if◌then◌else◌}
-use Rattle.int_types.specs.declared.operators.UnOp.{UnOp}
-use Rattle.int_types.specs.declared.operators.BinOp.{BinOp}
+use Rattle.soda_words.specs.declared.operators.UnOp.{UnOp}
+use Rattle.soda_words.specs.declared.operators.BinOp.{BinOp}
 use Rattle.soda_ir.specs.Written.{binary_level, unary_level}
 use Rattle.soda_print.specs.Canonical.{binary_word, closing, opening, unary_word}
 

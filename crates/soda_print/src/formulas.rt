@@ -8,7 +8,7 @@ ghost use Rattle.soda_print.specs.Steps.{binary_begin, binary_end, binary_middle
 use crate::NoMemory;
 use crate::text::{add, add_indexes, add_number, add_offset, add_type, close, open};
 use crate::words::{binary_word, unary_word};
-use int_types::{BinOp, UnOp};
+use soda_words::{BinOp, UnOp};
 use soda_ir::{Expr, Parts, binary_level, pairs_round, unary_level};
 use std::alloc::Global;
 

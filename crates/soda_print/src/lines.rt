@@ -2,7 +2,7 @@ ghost use Rattle.std.specs.Prelude.{◌≡◌, ◌++◌, map, codes, IfOk, OnOk}
 ghost use Rattle.std.specs.Fmt.{decimal};
 ghost use Rattle.soda_ir.specs.Program.{plain, plain_param, plain_tensor};
 ghost use Rattle.soda_ir.specs.Valid.{IsValid};
-ghost use Rattle.int_types.specs.IntType.{IsType};
+ghost use Rattle.soda_words.specs.IntType.{IsType};
 ghost use Rattle.soda_print.specs.Sized.{AreSizedParams, AreSizedTensors, IsSizedProgram, IsSizedTensor};
 ghost use Rattle.soda_print.specs.Canonical.{canonical, ended, headed, param_line, setting_lines, tensor_line};
 
@@ -10,7 +10,7 @@ use crate::NoMemory;
 use crate::formulas::add_formula;
 use crate::text::{add, add_indexes, add_left, add_number, add_tile, add_type, end_line};
 use crate::words::{border_word, role_word};
-use int_types::Ty;
+use soda_words::Ty;
 use soda_ir::{Param, Parts, Program, Tensor};
 use std::alloc::Global;
 

@@ -1,6 +1,6 @@
 use super::*;
 use arrayvec::ArrayVec;
-use int_types::{BinOp, Ty, UnOp};
+use soda_words::{BinOp, Ty, UnOp};
 use soda_ir::{Border, Expr, Param, Parts, Program, Role, Tensor};
 use sqlite_items::{Boxed, Items};
 use std::alloc::Global;

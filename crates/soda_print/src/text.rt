@@ -1,10 +1,10 @@
 ghost use Rattle.std.specs.Prelude.{◌≡◌, ◌++◌, ◌∷◌, [], map, codes, OnOk, if◌then◌else◌, ◌==◌};
 ghost use Rattle.std.specs.Fmt.{decimal, signed_decimal};
-ghost use Rattle.int_types.specs.IntType.{IsType};
+ghost use Rattle.soda_words.specs.IntType.{IsType};
 ghost use Rattle.soda_print.specs.Canonical.{behind_commas, closing, indexes_text, listed, opening, parted, type_text};
 
 use crate::NoMemory;
-use int_types::Ty;
+use soda_words::Ty;
 use std::alloc::Global;
 
 /// Adds bytes.

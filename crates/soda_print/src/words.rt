@@ -1,7 +1,7 @@
 ghost use Rattle.std.specs.Prelude.{◌≡◌};
 ghost use Rattle.soda_print.specs.Canonical.{binary_word, border_word, role_word, unary_word};
 
-use int_types::{BinOp, UnOp};
+use soda_words::{BinOp, UnOp};
 use soda_ir::{Border, Role};
 
 /// The word of an operator of one operand.

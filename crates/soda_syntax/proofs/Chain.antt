@@ -1,7 +1,7 @@
 -- Statements read one behind another, and where reading stops.
 use Rattle.std.proofs.Common.{◌≡◌, ◌⊎◌, inl, inr, List, [], ◌∷◌, ◌++◌, refl, sym, ◌∙◌, ap, subst}
 use Rattle.soda_words.specs.declared.token.Placed.{Placed}
-use Rattle.soda_syntax.specs.Statements.{PlainStatement}
+use Rattle.soda_formula.specs.Statements.{PlainStatement}
 use Rattle.soda_syntax.specs.Grammar.{IsStatement, AreStatements, no_statement, statement_before}
 use Rattle.soda_syntax.specs.SyntaxError.{BeginsText, IsTooLarge, IsGoodStart}
 use Rattle.soda_syntax.proofs.Lists.{compare, append-nil, append-assoc}

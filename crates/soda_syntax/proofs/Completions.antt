@@ -13,7 +13,7 @@ use Rattle.soda_syntax.specs.declared.stage.Setting.{Setting}
 use Rattle.soda_syntax.specs.declared.stage.Setting.TheVariants.{ProgramName, Width, Factor, Times, Edge, Group}
 use Rattle.soda_syntax.specs.declared.stage.Stage.{Stage}
 use Rattle.soda_syntax.specs.declared.stage.Stage.TheVariants.{Start, WidthWord, FactorWord, SettingColon, SettingValue, Finished, BankOrType, BankNumber, BankMore, TypeWord, RoleColon, RoleName, Sizes, SizeNumber, SizeClose, TileOrEnd, TileItem, TileMore, OffsetsOpen, Component, Magnitude, ComponentMore, Equals, Formula}
-use Rattle.soda_syntax.specs.Statements.{plain_statement}
+use Rattle.soda_formula.specs.Statements.{plain_statement}
 use Rattle.soda_syntax.specs.Grammar.{IsStatement, a_local, an_output}
 use Rattle.soda_syntax.specs.Lines.{line_of}
 use Rattle.soda_syntax.specs.Machine.{step, steps, declared_as}

@@ -9,8 +9,8 @@ use Rattle.soda_formula.proofs.Laws.{name_ends_formula}
 use Rattle.soda_syntax.specs.declared.stage.LeftSide.{LeftSide}
 use Rattle.soda_syntax.specs.declared.stage.Stage.{Stage}
 use Rattle.soda_syntax.specs.declared.stage.Stage.TheVariants.{Start, Formula}
-use Rattle.soda_syntax.specs.declared.statement.Statement.{Statement}
-use Rattle.soda_syntax.specs.Statements.{PlainStatement, plain_statement}
+use Rattle.soda_formula.specs.declared.statement.Statement.{Statement}
+use Rattle.soda_formula.specs.Statements.{PlainStatement, plain_statement}
 use Rattle.soda_syntax.specs.Grammar.{IsStatement}
 use Rattle.soda_syntax.specs.SyntaxError.{IsHead}
 use Rattle.soda_syntax.specs.Machine.{steps, finish}

@@ -1,7 +1,7 @@
 -- Laws of the grammar of statements.
 use Rattle.std.proofs.Common.{◌≡◌, inl, inr, List, [], ◌∷◌, ◌++◌, refl, sym, ◌∙◌, subst}
 use Rattle.soda_words.specs.declared.token.Placed.{Placed}
-use Rattle.soda_syntax.specs.Statements.{PlainStatement}
+use Rattle.soda_formula.specs.Statements.{PlainStatement}
 use Rattle.soda_syntax.specs.Grammar.{IsStatement, AreStatements, no_statement, statement_before}
 use Rattle.soda_syntax.proofs.Lists.{compare, append-nil}
 use Rattle.soda_syntax.proofs.Standing.{BeginsStatement, name_ends}

@@ -7,7 +7,7 @@ use Rattle.soda_syntax.specs.declared.stage.Role.{Role}
 use Rattle.soda_syntax.specs.declared.stage.Role.TheVariants.{Parameter, Source, Middle, Target}
 use Rattle.soda_syntax.specs.Grammar.{IsStatement, AreStatements, no_statement, statement_before}
 use Rattle.soda_syntax.specs.Lines.{line_as}
-use Rattle.soda_syntax.specs.Statements.{PlainFormulaLine, PlainStatement, local, output}
+use Rattle.soda_formula.specs.Statements.{PlainFormulaLine, PlainStatement, local, output}
 use Rattle.soda_syntax.specs.SyntaxError.{IsHead, IsSyntax}
 use Rattle.soda_syntax.proofs.Chain.{Reads, reads_none, reads_more}
 use Rattle.soda_syntax.proofs.Complete.{complete}

@@ -12,12 +12,12 @@ use Rattle.soda_syntax.specs.declared.stage.Setting.{Setting}
 use Rattle.soda_syntax.specs.declared.stage.Setting.TheVariants.{ProgramName, Width, Factor, Times, Edge, Group}
 use Rattle.soda_syntax.specs.declared.stage.Stage.TheVariants.{Start, WidthWord, FactorWord, SettingValue, BankOrType, BankNumber, BankMore, TypeWord, Sizes, SizeNumber, SizeClose, TileOrEnd, TileItem, OffsetsOpen, Component, Magnitude, ComponentMore, Equals, Formula}
 use Rattle.soda_syntax.specs.declared.stage.TileSoFar.{TileSoFar}
-use Rattle.soda_syntax.specs.declared.statement.Extent.{Extent}
-use Rattle.soda_syntax.specs.declared.statement.ParamLine.{ParamLine}
-use Rattle.soda_syntax.specs.declared.statement.Size.{Size}
-use Rattle.soda_syntax.specs.declared.statement.Statement.{Statement}
-use Rattle.soda_syntax.specs.declared.statement.Statement.TheVariants.{Param, Input}
-use Rattle.soda_syntax.specs.Statements.{plain_statement}
+use Rattle.soda_formula.specs.declared.statement.Extent.{Extent}
+use Rattle.soda_formula.specs.declared.statement.ParamLine.{ParamLine}
+use Rattle.soda_formula.specs.declared.statement.Size.{Size}
+use Rattle.soda_formula.specs.declared.statement.Statement.{Statement}
+use Rattle.soda_formula.specs.declared.statement.Statement.TheVariants.{Param, Input}
+use Rattle.soda_formula.specs.Statements.{plain_statement}
 use Rattle.soda_syntax.specs.Grammar.{IsExtent, AreSizes, no_size, size_before, AreDotted, last_number, number_before, IsBank, no_bank, a_bank, MayBeType, IsTile, no_tile, a_tile, IsLeftSide, IsLocalHead, IsOutputHead, IsStatement, a_kernel, a_burst_width, an_unroll_factor, an_iterate, ignored_border, preserved_border, a_cluster, a_param, an_input}
 use Rattle.soda_syntax.specs.Machine.{declared_as, tiled, headed, more_sizes, more_items, more_offsets, left_side}
 use Rattle.soda_syntax.proofs.Lists.{append-nil, append-assoc}

@@ -4,7 +4,7 @@ use Rattle.soda_words.specs.declared.token.Placed.{Placed}
 use Rattle.soda_formula.specs.Reading.{BeginsFormula, IsLarge}
 use Rattle.soda_syntax.specs.declared.stage.LeftSide.{LeftSide}
 use Rattle.soda_syntax.specs.declared.stage.Stage.TheVariants.{Start, Formula}
-use Rattle.soda_syntax.specs.Statements.{PlainStatement}
+use Rattle.soda_formula.specs.Statements.{PlainStatement}
 use Rattle.soda_syntax.specs.Grammar.{IsStatement, AreStatements, no_statement, statement_before}
 use Rattle.soda_syntax.specs.SyntaxError.{BeginsText, IsHead, EndsInFormula, IsTooLarge}
 use Rattle.soda_syntax.specs.Machine.{steps}

@@ -4,8 +4,8 @@ use Rattle.std.specs.Prelude.{slice_get, MatchOption}
 use Rattle.std.proofs.Math.Seq.{take-append_seam}
 use Rattle.std.proofs.lemmas.List.{take-append-drop, take-append-le, map-append, drop_all}
 use Rattle.soda_words.specs.declared.token.Placed.{Placed}
-use Rattle.soda_syntax.specs.declared.statement.Statement.{Statement}
-use Rattle.soda_syntax.specs.Statements.{PlainStatement, plain_statement}
+use Rattle.soda_formula.specs.declared.statement.Statement.{Statement}
+use Rattle.soda_formula.specs.Statements.{PlainStatement, plain_statement}
 use Rattle.soda_syntax.specs.Grammar.{AreStatements}
 use Rattle.soda_syntax.specs.SyntaxError.{IsHead, IsTooLarge, IsGoodStart, IsGoodUpTo, IsSyntax}
 use Rattle.soda_syntax.specs.Refusals.{IsRefusedIn}

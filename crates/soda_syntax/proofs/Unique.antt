@@ -3,7 +3,7 @@ use Rattle.std.proofs.Common.{◌≡◌, inl, inr, List, [], ◌∷◌, Some, sy
 use Rattle.soda_words.specs.declared.token.Placed.{Placed}
 use Rattle.soda_formula.specs.Grammar.{IsFormula}
 use Rattle.soda_syntax.specs.declared.stage.Stage.TheVariants.{Start, Formula}
-use Rattle.soda_syntax.specs.Statements.{PlainStatement, plain_statement}
+use Rattle.soda_formula.specs.Statements.{PlainStatement, plain_statement}
 use Rattle.soda_syntax.specs.Grammar.{IsStatement}
 use Rattle.soda_syntax.specs.Lines.{line_of}
 use Rattle.soda_syntax.specs.Machine.{steps, finish}

@@ -15,8 +15,8 @@ use Rattle.soda_syntax.specs.declared.stage.Setting.{Setting}
 use Rattle.soda_syntax.specs.declared.stage.Setting.TheVariants.{ProgramName, Width, Factor, Times, Edge, Group}
 use Rattle.soda_syntax.specs.declared.stage.Stage.{Stage}
 use Rattle.soda_syntax.specs.declared.stage.Stage.TheVariants.{Start, WidthWord, FactorWord, SettingColon, SettingValue, Finished, BankOrType, BankNumber, BankMore, TypeWord, RoleColon, RoleName, Sizes, SizeNumber, SizeClose, TileOrEnd, TileItem, TileMore, OffsetsOpen, Component, Magnitude, ComponentMore, Equals, Formula}
-use Rattle.soda_syntax.specs.declared.statement.Statement.{Statement}
-use Rattle.soda_syntax.specs.Statements.{plain_statement}
+use Rattle.soda_formula.specs.declared.statement.Statement.{Statement}
+use Rattle.soda_formula.specs.Statements.{plain_statement}
 use Rattle.soda_syntax.specs.Machine.{step, steps, stage_of, finish, begun, after_colon}
 use Rattle.soda_syntax.specs.Pieces.{left_of, IsAt, ReadsStatement, StopsStatement}
 use Rattle.soda_syntax.proofs.Running.{steps-append}

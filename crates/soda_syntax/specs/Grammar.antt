@@ -6,10 +6,10 @@ use Rattle.soda_words.specs.declared.token.Placed.{Placed}
 use Rattle.soda_words.specs.declared.token.Word.{Word}
 use Rattle.soda_formula.specs.Terms.{Term}
 use Rattle.soda_formula.specs.Grammar.{symbol_on, name_on, number_on, word_on, AreParted, InRound, AreOffsets, IsFormula}
-use Rattle.soda_syntax.specs.declared.statement.Extent.{Extent}
-use Rattle.soda_syntax.specs.declared.statement.Extent.TheVariants.{Fixed, Open}
-use Rattle.soda_syntax.specs.declared.statement.Size.{Size}
-use Rattle.soda_syntax.specs.Statements.{PlainStatement, kernel, burst_width, unroll_factor, iterate, border, cluster, param, input, local, output}
+use Rattle.soda_formula.specs.declared.statement.Extent.{Extent}
+use Rattle.soda_formula.specs.declared.statement.Extent.TheVariants.{Fixed, Open}
+use Rattle.soda_formula.specs.declared.statement.Size.{Size}
+use Rattle.soda_formula.specs.Statements.{PlainStatement, kernel, burst_width, unroll_factor, iterate, border, cluster, param, input, local, output}
 
 -- an extent of a tile
 pub data IsExtent : List Placed → Extent → Type 0 where

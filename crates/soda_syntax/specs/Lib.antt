@@ -1,4 +1,3 @@
-pub mod Statements
 pub mod Grammar
 pub mod SyntaxError
 pub mod Fails

@@ -3,7 +3,7 @@ use Rattle.soda_formula.specs.Terms.{Term}
 use Rattle.soda_syntax.specs.declared.stage.LeftSide.{LeftSide}
 use Rattle.soda_syntax.specs.declared.stage.Role.{Role}
 use Rattle.soda_syntax.specs.declared.stage.Role.TheVariants.{Target}
-use Rattle.soda_syntax.specs.Statements.{PlainFormulaLine, PlainStatement, local, output}
+use Rattle.soda_formula.specs.Statements.{PlainFormulaLine, PlainStatement, local, output}
 
 abbrev pub lined : LeftSide → Term → PlainFormulaLine
 lined l a = record { ty = l.ty; name = l.name; left = l.offsets; formula = a }

@@ -6,8 +6,8 @@ use Rattle.soda_formula.specs.Reading.{ReadsFormula, StopsFormula}
 use Rattle.soda_syntax.specs.declared.stage.LeftSide.{LeftSide}
 use Rattle.soda_syntax.specs.declared.stage.Stage.{Stage}
 use Rattle.soda_syntax.specs.declared.stage.Stage.TheVariants.{Start, Formula}
-use Rattle.soda_syntax.specs.declared.statement.Statement.{Statement}
-use Rattle.soda_syntax.specs.Statements.{PlainStatement, plain_statement}
+use Rattle.soda_formula.specs.declared.statement.Statement.{Statement}
+use Rattle.soda_formula.specs.Statements.{PlainStatement, plain_statement}
 use Rattle.soda_syntax.specs.Lines.{line_of}
 use Rattle.soda_syntax.specs.Machine.{step, steps, stage_of, finish}
 

@@ -1,7 +1,7 @@
 -- Where tokens leave the grammar, for the tokens of a text and the line of its end.
 use Rattle.std.specs.Prelude.{◌≡◌, ◌⊎◌, ℕ, List, length, slice_get, Some}
 use Rattle.soda_words.specs.declared.token.Placed.{Placed}
-use Rattle.soda_syntax.specs.Statements.{PlainStatement}
+use Rattle.soda_formula.specs.Statements.{PlainStatement}
 use Rattle.soda_syntax.specs.Grammar.{AreStatements}
 use Rattle.soda_syntax.specs.SyntaxError.{IsFirstWrong, IsGoodUpTo}
 

@@ -4,7 +4,7 @@ use Rattle.soda_words.specs.Tokens.{tokens_of, end_line}
 use Rattle.soda_words.specs.declared.token.Placed.{Placed}
 use Rattle.soda_words.specs.declared.token.Word.{Word}
 use Rattle.soda_formula.specs.Reading.{BeginsFormula, IsLarge}
-use Rattle.soda_syntax.specs.Statements.{PlainStatement}
+use Rattle.soda_formula.specs.Statements.{PlainStatement}
 use Rattle.soda_syntax.specs.Grammar.{IsLocalHead, IsOutputHead, AreStatements}
 
 -- the tokens begin some text of the grammar

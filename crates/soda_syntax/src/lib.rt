@@ -5,7 +5,6 @@ mod grammar_laws;
 mod one;
 mod reading;
 mod stage;
-mod statement;
 mod steps;
 mod stop;
 #[cfg(test)]
@@ -13,6 +12,5 @@ mod tests;
 
 pub use grammar_laws::statements_are_one;
 pub use reading::{SyntaxFail, read_statements};
-pub use statement::{Extent, FormulaLine, InputLine, ParamLine, Size, Statement};
 /// Want of memory.
 pub use std::alloc::AllocError as NoMemory;

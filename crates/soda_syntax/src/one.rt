@@ -4,14 +4,13 @@ ghost use Rattle.soda_syntax.specs.Fails.{IfStopped};
 ghost use Rattle.soda_syntax.specs.Lines.{line_of};
 ghost use Rattle.soda_syntax.specs.Machine.{steps};
 ghost use Rattle.soda_syntax.specs.Pieces.{ReadsStatement, StopsStatement};
-ghost use Rattle.soda_syntax.specs.Statements.{plain_statement};
+ghost use Rattle.soda_formula.specs.Statements.{plain_statement};
 ghost use Rattle.soda_syntax.specs.declared.stage.Stage.TheVariants.{Start, Formula};
 
 use crate::stage::{LeftSide, Next, Role, Stage};
 use crate::steps::{finish, step};
 use crate::stop::Stop;
-use crate::{FormulaLine, Statement};
-use soda_formula::{FormulaFail, Written, read_formula};
+use soda_formula::{FormulaLine, Statement, FormulaFail, Written, read_formula};
 use soda_words::Placed;
 use std::alloc::Global;
 

@@ -1,11 +1,11 @@
 ghost use Rattle.std.specs.Prelude.{◌≡◌, IfOk, map, MatchOption, slice_get};
 ghost use Rattle.soda_syntax.specs.Fails.{IfRefused};
 ghost use Rattle.soda_syntax.specs.Refusals.{IsRefusedIn};
-ghost use Rattle.soda_syntax.specs.Statements.{plain_statement};
+ghost use Rattle.soda_formula.specs.Statements.{plain_statement};
 ghost use Rattle.soda_syntax.specs.SyntaxError.{IsSyntax, IsSyntaxError};
 ghost use Rattle.soda_words.specs.Tokens.{tokens_of};
 
-use crate::Statement;
+use soda_formula::Statement;
 use crate::one::read_statement;
 use crate::stop::Stop;
 use soda_words::{Placed, end_line, tokens};

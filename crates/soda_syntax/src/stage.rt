@@ -1,4 +1,4 @@
-use crate::{Extent, ParamLine, Statement};
+use soda_formula::{Extent, ParamLine, Statement};
 use soda_words::Word;
 use sqlite_items::Items;
 

@@ -2,7 +2,7 @@ ghost use Rattle.std.specs.Prelude.{◌≡◌, IfOk};
 ghost use Rattle.soda_syntax.specs.Machine.{headed, declaring, begun, after_nothing, after_burst, after_unroll, after_heading, edge_value, named_value, number_value, after_colon, typed, at_type, at_bank, after_dram, after_bank_number, after_type, declared_as, at_name, after_sizes, more_sizes, at_size, after_size, untiled, tiled, after_input, more_items, at_item, after_item, at_offsets, more_offsets, at_component, at_magnitude, after_component, at_equals, step, finish};
 
 use crate::stage::{Heading, LeftSide, Next, Role, Setting, Stage, TileSoFar};
-use crate::{Extent, InputLine, ParamLine, Size, Statement};
+use soda_formula::{Extent, InputLine, ParamLine, Size, Statement};
 use soda_words::{Placed, Symbol, Token, Word, is_word};
 use sqlite_items::Items;
 use std::alloc::{AllocError, Global};

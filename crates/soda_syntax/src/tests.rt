@@ -1,4 +1,5 @@
 use super::*;
+use soda_formula::{Extent, FormulaLine, InputLine, ParamLine, Size, Statement};
 use soda_words::Word;
 use sqlite_items::Items;
 use std::alloc::Global;

@@ -1,3 +1,6 @@
+pub mod IntType
+pub mod OperatorTable
+pub mod Limits
 pub mod Names
 pub mod Table
 pub mod Tokens

@@ -4,7 +4,7 @@ use Rattle.std.specs.Fmt.{decimal, signed_decimal}
 use Rattle.std.proofs.lemmas.Fmt.{length-decimal-le}
 use Rattle.std.proofs.lemmas.Int.{ints}
 use Rattle.std.proofs.lemmas.List.Elements.{All-head, All-tail}
-use Rattle.int_types.specs.IntType.{InRange}
+use Rattle.int_types.specs.Ranges.{InRange}
 use Rattle.soda_ir.specs.Points.{listed}
 use Rattle.soda_ir.specs.Program.{HasArrays, HasValues, IsArray, PlainProgram, cells_at, defined_arrays, input_types, place_types}
 use Rattle.soda_ir.specs.Sums.{IsSumProgram, sum_program, uint8}

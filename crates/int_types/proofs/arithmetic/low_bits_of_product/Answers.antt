@@ -1,7 +1,7 @@
 use Rattle.std.proofs.Common.{rules, arith, ◌≡◌, pos, ◌*◌, ◌%◌, ◌^◌, ◌<◌, unsigned_abs, to_z, of_z, ◌∙◌, ap, FitsSigned}
 use Rattle.std.specs.Int.{w128}
 use Rattle.std.proofs.lemmas.Int.{ints, to_z_pos, to_z-of_z}
-use Rattle.int_types.specs.IntType.{IsWrapOf}
+use Rattle.int_types.specs.Ranges.{IsWrapOf}
 use Rattle.int_types.proofs.Wrapped.{unsigned_wrap, past_64}
 use Rattle.int_types.proofs.arithmetic.low_bits_of_product.Goals as goal
 

@@ -1,7 +1,7 @@
 use Rattle.std.proofs.Common.{rules, ◌≡◌, ℤ, pos, ◌*ℤ◌, ◌*◌, FitsSigned, unsigned_abs, ◌∙◌, ap}
 use Rattle.std.specs.Int.{w128}
 use Rattle.std.proofs.lemmas.Int.{to_z-of_z}
-use Rattle.int_types.specs.IntType.{IsWrapOf}
+use Rattle.int_types.specs.Ranges.{IsWrapOf}
 use Rattle.int_types.proofs.Bounds.{unsigned_is}
 use Rattle.int_types.proofs.arithmetic.unsigned_product.Goals as goal
 

@@ -1,7 +1,7 @@
 use Rattle.std.proofs.Common.{rules, arith, ◌≡◌, ℤ, pos, ◌^◌, ◌-ℤ◌, FitsSigned, to_z, of_z, sym, ◌∙◌, ap, subst}
 use Rattle.std.specs.Int.{w128, int_rem_euclid}
 use Rattle.std.proofs.lemmas.Int.{ints, to_z-of_z}
-use Rattle.int_types.specs.IntType.{IsWrapOf}
+use Rattle.int_types.specs.Ranges.{IsWrapOf}
 use Rattle.int_types.proofs.Wrapped.{low_wrap, high_wrap}
 use Rattle.int_types.proofs.range.wrap_by_remainder.Goals as goal
 

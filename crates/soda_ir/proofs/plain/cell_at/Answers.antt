@@ -1,8 +1,8 @@
 use Rattle.std.proofs.Common.{[], sym, ◌∙◌, ap, rules, FitsSigned, to_z, of_z, slice_index_or}
 use Rattle.std.specs.Int.{w128}
 use Rattle.std.proofs.lemmas.Int.{to_z-of_z}
-use Rattle.int_types.specs.IntType.{wrapped}
-use Rattle.int_types.specs.Operators.{int32}
+use Rattle.int_types.specs.Ranges.{wrapped}
+use Rattle.soda_words.specs.IntType.{int32}
 use Rattle.soda_ir.specs.declared.program.Parts.{Parts}
 use Rattle.soda_ir.specs.Program.{IsArray, cells_at, plain, scope_of}
 use Rattle.soda_ir.specs.Tree.{formula_of}

@@ -2,7 +2,7 @@ use Rattle.std.proofs.Common.{◌≡◌, ◌++◌, map, take, drop}
 use Rattle.std.specs.Prelude.{flat_map}
 use Rattle.soda_ir.specs.Program.{plain_tensor}
 use Rattle.soda_parse.specs.Meaning.{tensors_in}
-use Rattle.soda_syntax.specs.Statements.{plain_statement}
+use Rattle.soda_formula.specs.Statements.{plain_statement}
 use Rattle.soda_parse.proofs.program.add_tensors.Given as goal
 
 abbrev pub invariant-loop-statement : goal.invariant-loop-statement

@@ -1,5 +1,5 @@
 use Rattle.std.proofs.Common.{map}
-use Rattle.soda_syntax.specs.Statements.{plain_statement}
+use Rattle.soda_formula.specs.Statements.{plain_statement}
 use Rattle.soda_parse.proofs.Link.{few_tensors, few_params, few_made_at, countable_at}
 use Rattle.soda_parse.proofs.reading.judge.Goals as goal
 

@@ -1,5 +1,5 @@
 use Rattle.std.proofs.Common.{map, sym, ◌∙◌}
-use Rattle.soda_syntax.specs.Statements.{plain_statement}
+use Rattle.soda_formula.specs.Statements.{plain_statement}
 use Rattle.soda_parse.specs.Text.{not_valid}
 use Rattle.soda_parse.proofs.Link.{refused_at, valid_at}
 use Rattle.soda_parse.proofs.reading.program_of.Goals as goal

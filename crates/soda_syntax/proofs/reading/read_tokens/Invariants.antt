@@ -1,5 +1,5 @@
 use Rattle.std.proofs.Common.{◌≤◌, ◌-◌, length, drop, map}
-use Rattle.soda_syntax.specs.Statements.{plain_statement}
+use Rattle.soda_formula.specs.Statements.{plain_statement}
 use Rattle.soda_syntax.proofs.Chain.{Reads}
 use Rattle.soda_syntax.proofs.reading.read_tokens.Given as goal
 

@@ -1,6 +1,6 @@
 use Rattle.std.proofs.Common.{◌<◌, length, slice_index_or, ap, sym, ◌∙◌, map}
 use Rattle.std.proofs.lemmas.List.{get_or-map, length-map}
-use Rattle.int_types.specs.Operators.{int32}
+use Rattle.soda_words.specs.IntType.{int32}
 use Rattle.soda_ir.specs.Program.{plain_tensor, PlainTensor}
 use Rattle.soda_ir.proofs.program.Parts.tensor_type.Goals as goal
 

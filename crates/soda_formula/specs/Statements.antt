@@ -3,11 +3,11 @@ use Rattle.std.specs.Prelude.{ℕ, Bool, List, ℤ}
 use Rattle.soda_words.specs.declared.token.Word.{Word}
 use Rattle.soda_formula.specs.Terms.{Term}
 use Rattle.soda_formula.specs.Tree.{term_of}
-use Rattle.soda_syntax.specs.declared.statement.FormulaLine.{FormulaLine}
-use Rattle.soda_syntax.specs.declared.statement.InputLine.{InputLine}
-use Rattle.soda_syntax.specs.declared.statement.ParamLine.{ParamLine}
-use Rattle.soda_syntax.specs.declared.statement.Statement.{Statement}
-use Rattle.soda_syntax.specs.declared.statement.Statement.TheVariants.{Kernel, BurstWidth, UnrollFactor, Iterate, Border, Cluster, Param, Input, Local, Output}
+use Rattle.soda_formula.specs.declared.statement.FormulaLine.{FormulaLine}
+use Rattle.soda_formula.specs.declared.statement.InputLine.{InputLine}
+use Rattle.soda_formula.specs.declared.statement.ParamLine.{ParamLine}
+use Rattle.soda_formula.specs.declared.statement.Statement.{Statement}
+use Rattle.soda_formula.specs.declared.statement.Statement.TheVariants.{Kernel, BurstWidth, UnrollFactor, Iterate, Border, Cluster, Param, Input, Local, Output}
 
 -- a local or an output: its type and name, the offsets of its left side, and its formula
 pub record PlainFormulaLine : Type 0 where

@@ -1,6 +1,5 @@
-ghost use Rattle.std.specs.Prelude.{◌≡◌, ◌⊎◌, ◌↔◌, IsSome, IfSome};
-ghost use Rattle.int_types.specs.IntType.{IntType, IsType, IsCellSize};
-ghost use Rattle.int_types.specs.Operators.{int32, promoted, wider, common_of, PromotesInto, literal_of};
+ghost use Rattle.std.specs.Prelude.{◌≡◌, ◌↔◌, IsSome, IfSome};
+ghost use Rattle.soda_words.specs.IntType.{IntType, IsType, IsCellSize, int32, int64, uint64};
 
 use std::marker::Model;
 
@@ -12,7 +11,7 @@ pub struct Ty {
 }
 
 impl Model for Ty {
-    ghost use Rattle.int_types.specs.IntType.{IntType, IsType};
+    ghost use Rattle.soda_words.specs.IntType.{IntType, IsType};
 
     ghost Value = { IntType };
 
@@ -63,57 +62,23 @@ pub fn int32() -> Ty
     }
 }
 
-/// The type in which an operator computes on operands of this type: a width below 32 bits gives int32, and any other type
-/// stays.
-pub fn promote(ty: Ty) -> Ty
-    ensures { result ≡ promoted ty }
+/// The signed type of 64 bits.
+pub fn int64() -> Ty
+    ensures { result ≡ int64 }
 {
-    if ty.bits() < 32 { int32() } else { ty }
-}
-
-// The wider of two types, and at equal widths the unsigned one, if either is unsigned.
-fn wider(a: Ty, b: Ty) -> Ty
-    ensures { result ≡ wider a b }
-{
-    if a.bits() < b.bits() {
-        b
-    } else if b.bits() < a.bits() {
-        a
-    } else if a.signed() {
-        b
-    } else {
-        a
+    Ty {
+        signed: true,
+        bits: 64,
     }
 }
 
-/// The common type of two operands: the wider of the two promoted types, and at equal widths the unsigned one, if either is
-/// unsigned. The order of the two doesn't matter.
-pub fn common(a: Ty, b: Ty) -> Ty
-    ensures value { result ≡ common_of a b }
-    ensures symmetric { result ≡ common_of b a }
-    ensures left { PromotesInto a result }
-    ensures right { PromotesInto b result }
-    ensures one { (result ≡ promoted a) ⊎ (result ≡ promoted b) }
+/// The unsigned type of 64 bits.
+pub fn uint64() -> Ty
+    ensures { result ≡ uint64 }
 {
-    wider(promote(a), promote(b))
-}
-
-/// The type of a literal: int32 below 2^31, int64 below 2^63, else uint64.
-pub fn literal_type(v: u64) -> Ty
-    ensures { result ≡ literal_of v }
-{
-    if v < 1 << 31 {
-        int32()
-    } else if v < 1 << 63 {
-        Ty {
-            signed: true,
-            bits: 64,
-        }
-    } else {
-        Ty {
-            signed: false,
-            bits: 64,
-        }
+    Ty {
+        signed: false,
+        bits: 64,
     }
 }
 

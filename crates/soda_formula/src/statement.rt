@@ -1,4 +1,4 @@
-use soda_formula::Written;
+use crate::Written;
 use soda_words::Word;
 use sqlite_items::Items;
 
