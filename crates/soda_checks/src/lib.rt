@@ -7,8 +7,6 @@ mod names;
 mod need;
 mod outline;
 mod places;
-#[cfg(test)]
-mod tests;
 mod types;
 
 pub use conditions::{bad_width, float_type, is_same, missing, name_twice, twice, unknown_name};

@@ -10,7 +10,7 @@ ghost use Rattle.soda_syntax.specs.declared.stage.Stage.TheVariants.{Start, Form
 use crate::stage::{LeftSide, Next, Role, Stage};
 use crate::steps::{finish, step};
 use crate::stop::Stop;
-use soda_formula::{FormulaLine, Statement, FormulaFail, Written, read_formula};
+use soda_formula::{FormulaFail, FormulaLine, Statement, Written, read_formula};
 use soda_words::Placed;
 use std::alloc::Global;
 

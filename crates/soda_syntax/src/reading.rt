@@ -5,9 +5,9 @@ ghost use Rattle.soda_formula.specs.Statements.{plain_statement};
 ghost use Rattle.soda_syntax.specs.SyntaxError.{IsSyntax, IsSyntaxError};
 ghost use Rattle.soda_words.specs.Tokens.{tokens_of};
 
-use soda_formula::Statement;
 use crate::one::read_statement;
 use crate::stop::Stop;
+use soda_formula::Statement;
 use soda_words::{Placed, end_line, tokens};
 use std::alloc::{AllocError, AllocFailed, Global};
 use thiserror::Error;

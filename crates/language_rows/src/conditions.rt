@@ -1,4 +1,4 @@
-use super::*;
+use soda_checks::*;
 use soda_syntax::read_statements;
 use std::alloc::Global;
 use std::test::Fail;

@@ -1,0 +1,1 @@
+//! Rows on integer types and operators.

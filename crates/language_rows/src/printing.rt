@@ -1,0 +1,1 @@
+//! Rows on canonical texts.

@@ -1,0 +1,1 @@
+//! Rows on programs as data and what they mean.

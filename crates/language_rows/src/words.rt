@@ -1,0 +1,1 @@
+//! Rows on names, numbers and symbols.
