@@ -5,7 +5,7 @@ use Rattle.std.proofs.lemmas.List.Elements.{All-head, All-tail}
 use Rattle.soda_words.specs.IntType.{IntType, int32}
 use Rattle.int_types.specs.Ranges.{wrapped, InRange}
 use Rattle.soda_words.specs.declared.operators.BinOp.TheVariants.{Add, Sub}
-use Rattle.int_types.proofs.Wrapped.{zero_in_range}
+use Rattle.int_types.proofs.CallerLemmas.{zero_in_range}
 use Rattle.soda_ir.specs.declared.program.Tensor.{Tensor}
 use Rattle.soda_ir.specs.Arrays.{every, Each, Stencil, Given, in_region, cell, whole, array_cell, by_formula, formula_at}
 use Rattle.soda_ir.specs.Formula.{Formula, read, binary, Scope, valued, IsReadable}
