@@ -4,7 +4,7 @@ use Rattle.std.proofs.Math.Dec.{eqb-suc-zero}
 use Rattle.std.specs.Prelude.{position, find, slice_get, bytes_eq, unwrap_or, nat_lt}
 use Rattle.std.specs.List.{list_all, list_any, position_from, position_or_len}
 use Rattle.std.specs.Fmt.{decimal}
-use Rattle.std.proofs.lemmas.Bool.{eqb-true, eq-eqb}
+use Rattle.std.proofs.lemmas.Bool.{and_from, and_parts, eqb-true, eq-eqb, or_right}
 use Rattle.std.proofs.lemmas.Fmt.{decimal-digits_value, decimal_digit, decimal_nonempty, digits_decimal, digits_value-decimal, first_decimal}
 use Rattle.std.proofs.lemmas.Str.Parse.{IsNumeralModel, numerals_by_fold}
 use borrow.Author.Tests.{ltb-true}
@@ -118,31 +118,6 @@ module _ {X : Type 0} (p : X → Bool) where
   pub find-no_place : (xs : List X) → position p xs ≡ None → find p xs ≡ None
   find-no_place xs h = absent (is_some-find xs ∙ (sym (is_some-position p xs) ∙ ap is_some h))
 
--- two tests that hold, as one
-pub both : (a b : Bool) → a ≡ true → b ≡ true → (a && b) ≡ true
-both true b p q = q
-both false b p q = p
-
--- the first of two tests that hold
-pub first : (a b : Bool) → (a && b) ≡ true → a ≡ true
-first true b e = refl
-first false b e = cc
-
--- the second of two tests that hold
-pub second : (a b : Bool) → (a && b) ≡ true → b ≡ true
-second true b e = e
-second false b e = cc
-
--- one of two tests that holds: the first
-pub or_first : (a b : Bool) → a ≡ true → (a || b) ≡ true
-or_first true b e = refl
-or_first false b e = cc
-
--- one of two tests that holds: the second
-pub or_second : (a b : Bool) → b ≡ true → (a || b) ≡ true
-or_second true b e = refl
-or_second false b e = e
-
 -- digits write numbers as std says it of numerals
 pub own : IsNumeralModel (λ ds. list_all is_digit ds ≡ true) (value_behind 0)
 own = numerals_by_fold _ (search rules) value_behind (search rules)
@@ -151,7 +126,8 @@ own = numerals_by_fold _ (search rules) value_behind (search rules)
 pub digits_words : (ds : List ℕ) → list_all is_digit ds ≡ true → list_all is_word_byte ds ≡ true
 digits_words [] h = refl
 digits_words (d ∷ ds) h =
-    both (begins_name d || is_digit d) (list_all is_word_byte ds) (or_second (begins_name d) (is_digit d) (first (is_digit d) (list_all is_digit ds) h)) (digits_words ds (second (is_digit d) (list_all is_digit ds) h))
+    let parts = and_parts (is_digit d) (list_all is_digit ds) h in
+    and_from (is_word_byte d) (list_all is_word_byte ds) (or_right (begins_name d) (is_digit d) parts.0) (digits_words ds parts.1)
 
 -- digits, and not none
 pub some_digits : (ds : List ℕ) → list_all is_digit ds ≡ true → 0 < length ds → is_some_digits ds ≡ true
@@ -188,14 +164,16 @@ one_zero (suc n) h = no_zero_first (decimal (suc n)) (first_decimal (suc n) (ome
 -- a decimal below 2 ^ 64 is a number
 pub number_is : (n : ℕ) → n < 2 ^ 64 → is_number (decimal n) ≡ true
 number_is n h =
-    both (is_some_digits (decimal n) && (not (begins_with_zero (decimal n)) || length (decimal n) == 1)) (nat_lt (value_behind 0 (decimal n)) (2 ^ 64))
-    (both (is_some_digits (decimal n)) (not (begins_with_zero (decimal n)) || length (decimal n) == 1) (some_digits (decimal n) (digits_decimal own n h) (decimal_nonempty n h)) (one_zero n h))
+    and_from (is_some_digits (decimal n) && (not (begins_with_zero (decimal n)) || length (decimal n) == 1)) (nat_lt (value_behind 0 (decimal n)) (2 ^ 64))
+    (and_from (is_some_digits (decimal n)) (not (begins_with_zero (decimal n)) || length (decimal n) == 1) (some_digits (decimal n) (digits_decimal own n h) (decimal_nonempty n h)) (one_zero n h))
     (lt-ltb (value_behind 0 (decimal n)) (2 ^ 64) (omega (arith, digits_value-decimal own n h)))
 
 -- a number is written as its decimal
 pub number_written : (ds : List ℕ) → is_number ds ≡ true → (ds ≡ decimal (value_behind 0 ds)) × (value_behind 0 ds < 2 ^ 64)
 number_written ds h =
-    let l = first (is_some_digits ds && (not (begins_with_zero ds) || length ds == 1)) (nat_lt (value_behind 0 ds) (2 ^ 64)) h in
-    let small : value_behind 0 ds < 2 ^ 64 = ltb-true (value_behind 0 ds) (2 ^ 64) (second (is_some_digits ds && (not (begins_with_zero ds) || length ds == 1)) (nat_lt (value_behind 0 ds) (2 ^ 64)) h) in
-    let d = some_are_digits ds (first (is_some_digits ds) (not (begins_with_zero ds) || length ds == 1) l) in
-    (sym (decimal-digits_value own ds d.0 d.1 (zero_first ds (second (is_some_digits ds) (not (begins_with_zero ds) || length ds == 1) l)) small), small)
+    let one = not (begins_with_zero ds) || length ds == 1 in
+    let outer = and_parts (is_some_digits ds && one) (nat_lt (value_behind 0 ds) (2 ^ 64)) h in
+    let inner = and_parts (is_some_digits ds) one outer.0 in
+    let small : value_behind 0 ds < 2 ^ 64 = ltb-true (value_behind 0 ds) (2 ^ 64) outer.1 in
+    let d = some_are_digits ds inner.0 in
+    (sym (decimal-digits_value own ds d.0 d.1 (zero_first ds inner.1) small), small)
