@@ -23,7 +23,8 @@ use Rattle.soda_words.specs.Limits.{most_text}
 use Rattle.sodac_cli.specs.Meaning.{Before, HasProgram, HasRefusedText, Holding, IsBegun, IsBuilt, IsFine, IsOnlyCause, IsRefusedJob, IsUnbuiltJob, Tells, form, text}
 use Rattle.sodac_cli.specs.Stages.{ReadLog, TextBytes, TextLog}
 use Rattle.sodac_cli.proofs.Begun.{Always, not_opened}
-use Rattle.sodac_cli.proofs.Logs.{broken_quiet, failure_behind, good_quiet, gots-append, then_broken, then_clean}
+use Rattle.whole_files.proofs.CallerLemmas.{gots-append}
+use Rattle.sodac_cli.proofs.Logs.{broken_quiet, failure_behind, good_quiet, then_broken, then_clean}
 
 some_same : {A : Type 0} (x y : A) → Some x ≡ Some y → x ≡ y
 some_same x y e = cc
