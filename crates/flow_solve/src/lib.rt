@@ -4,6 +4,7 @@
 mod arc;
 mod cycle;
 mod laws;
+mod limits;
 mod proposal;
 mod residual;
 mod round;
@@ -19,8 +20,3 @@ pub use arc::{Arc, Longest};
 pub use laws::least_plans_meet;
 pub use solver::solve;
 pub use walks::longest;
-
-#[cfg(test)]
-mod small_nets;
-#[cfg(test)]
-mod tests;

@@ -1,7 +1,10 @@
 ghost use Rattle.std.specs.Prelude.{◌≡◌, ℕ, ◌+◌, ◌<◌, ◌≤◌, length, IfOk, IfSome};
 ghost use Rattle.std.specs.List.{All};
-ghost use Rattle.flow_solve.specs.Steps.{IsStep, AreSteps, HasStep, AreMarks};
+ghost use Rattle.delay_net.specs.Limits.{most_tensors};
+ghost use Rattle.flow_solve.specs.Limits.{most_nodes};
+ghost use Rattle.flow_solve.specs.machine.Steps.{IsStep, AreSteps, HasStep, AreMarks};
 
+use crate::limits::MOST_NODES;
 use crate::steps::{Kind, Step, Steps};
 use delay_net::NoMemory;
 use std::alloc::Global;
@@ -76,7 +79,7 @@ fn go_on_from(
 // Goes on from a node, if its length rose, and answers whether that led further.
 fn visit(steps: &Steps, node: u32, hold: &[u32], need: &[u32], marks: &mut [Mark]) -> bool
     requires steps { AreSteps (length hold.now) steps.now }
-    requires node { node < 1024 }
+    requires node { node < most_nodes }
     requires needs { length need.now ≡ length hold.now }
     requires marks { AreMarks (length hold.now) marks.old }
     ensures { AreMarks (length hold.now) marks.new }
@@ -103,7 +106,7 @@ fn sweep(
     marks: &mut [Mark],
 ) -> bool
     requires steps { AreSteps (length hold.now) steps.now }
-    requires tensors { tensors ≤ 512 }
+    requires tensors { tensors ≤ most_tensors }
     requires needs { length need.now ≡ length hold.now }
     requires marks { AreMarks (length hold.now) marks.old }
     ensures { AreMarks (length hold.now) marks.new }
@@ -124,8 +127,8 @@ fn sweep(
 // many sweeps as a walk without a circle needs at most.
 fn search(steps: &Steps, tensors: u32, from: u32, hold: &[u32], need: &[u32], marks: &mut [Mark])
     requires steps { AreSteps (length hold.now) steps.now }
-    requires tensors { tensors ≤ 512 }
-    requires from { from < 1024 }
+    requires tensors { tensors ≤ most_tensors }
+    requires from { from < most_nodes }
     requires needs { length need.now ≡ length hold.now }
     requires marks { AreMarks (length hold.now) marks.old }
     ensures { AreMarks (length hold.now) marks.new }
@@ -149,23 +152,21 @@ fn walk_back(
     from: u32,
     to: u32,
 ) -> Result<Option<Vec<Step>>, NoMemory>
-    requires to { to < 1024 }
+    requires to { to < most_nodes }
     requires marks { (reads : ℕ) × AreMarks reads marks.now }
     ensures { (reads : ℕ) → AreMarks reads marks.now
         → IfOk result (λ found. IfSome found (λ walk. All (IsStep reads) walk.items)) }
 {
     let mut walk = Vec::new(alloc);
     let mut node = to;
-    for _ in 0..1024 {
+    for _ in 0..MOST_NODES {
         if node == from {
             return Ok(Some(walk));
         }
         let Some(step) = marks[node as usize].last else {
             return Ok(None);
         };
-        let Ok(()) = walk.push(step) else {
-            return Err(NoMemory);
-        };
+        walk.push(step)?;
         node = step.arc.from;
     }
     Ok(None)
@@ -183,7 +184,7 @@ pub(crate) fn longest_steps(
     need: &[u32],
 ) -> Result<Option<Vec<Step>>, NoMemory>
     requires steps { AreSteps (length hold.now) steps.now }
-    requires tensors { tensors ≤ 512 }
+    requires tensors { tensors ≤ most_tensors }
     requires tensor { tensor < tensors }
     requires needs { length need.now ≡ length hold.now }
     ensures { IfOk result (λ found. IfSome found (λ walk. All (IsStep (length hold.now)) walk.items)) }
@@ -192,7 +193,7 @@ pub(crate) fn longest_steps(
         length: None,
         last: None,
         risen: false,
-    }; 1024];
+    }; MOST_NODES as usize];
     search(steps, tensors, tensor, hold, need, &mut marks);
     walk_back(alloc, &marks, tensor, tensors + tensor)
 }

@@ -17,7 +17,8 @@ pub record IsRound (graph : List Arc) (old : List ℤ) (last : List (Option ℕ)
   pub last_size : length last ≡ length old
   pub comes : (v : ℕ) → v < length old → ComesBy graph old v (at new v) (slice_index_or last v None)
   pub grows : (v : ℕ) → v < length old → at old v ≤ℤ at new v
-  pub further : (k : ℕ) → k < length graph → (at old (arc_at graph k).from +ℤ (arc_at graph k).length) ≤ℤ at new (arc_at graph k).to
+  pub further : (k : ℕ) → k < length graph → (at old (arc_at graph k).from +ℤ (arc_at graph k).length)
+      ≤ℤ at new (arc_at graph k).to
 
 -- the lengths after rounds, the latest first, from 0 on
 abbrev pub After : List Arc → ℕ → List (List (Option ℕ)) → List ℤ → Type 0
@@ -28,4 +29,5 @@ After graph nodes (last ∷ rounds) lengths =
 -- no walk of at most n arcs is longer
 abbrev pub BoundsWalks : List Arc → ℕ → List ℤ → Type 0
 BoundsWalks graph n lengths =
-    (from : ℕ) (walk : List ℕ) (to : ℕ) → IsWalk graph from walk to → length walk ≤ n → to < length lengths → walk_length graph walk ≤ℤ at lengths to
+    (from : ℕ) (walk : List ℕ) (to : ℕ) → IsWalk graph from walk to → length walk ≤ n → to < length lengths
+    → walk_length graph walk ≤ℤ at lengths to

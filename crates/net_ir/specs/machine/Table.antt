@@ -7,7 +7,8 @@ use Rattle.net_ir.specs.Nets.{Net, entrances_among, exits_among, IsNetwork}
 -- at each of so many modules, the first k queues are listed
 pub record IsListed (queues : List Queue) (modules k : ℕ) (ends : List Ends) : Type 0 where
   pub whole : length ends ≡ modules
-  pub entrances_at : (m : ℕ) (d : Ends) → m < modules → (slice_index_or ends m d).entrances.items ≡ entrances_among queues m k
+  pub entrances_at : (m : ℕ) (d : Ends) → m < modules
+      → (slice_index_or ends m d).entrances.items ≡ entrances_among queues m k
   pub exits_at : (m : ℕ) (d : Ends) → m < modules → (slice_index_or ends m d).exits.items ≡ exits_among queues m k
 
 -- a network within the limits of its numbers, and all queues listed at each module

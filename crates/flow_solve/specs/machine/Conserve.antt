@@ -2,15 +2,10 @@
 use Rattle.std.specs.Prelude.{◌≡◌, ℕ, ◌+◌, ◌*◌, ◌-◌, ◌≤◌, ◌==◌, Bool, ◌+ℤ◌, List, [], ◌∷◌, length, slice_index, slice_set, if◌then◌else◌, nat_lt}
 use Rattle.delay_net.specs.Sums.{sum_below}
 use Rattle.delay_net.specs.Certificate.{width_if_read, value_of}
+use Rattle.delay_net.specs.pieces.Weighed.{weighed}
 use Rattle.delay_net.specs.declared.net.Read.{Read}
 use Rattle.flow_solve.specs.declared.arc.Arc.{Arc}
 pub use Rattle.flow_solve.specs.Walk.{NoRepeat}
-
--- over the reads, number times what f gives
-unfoldable pub weighed : (Read → ℕ) → List Read → List ℕ → ℕ
-weighed f [] numbers = 0
-weighed f (r ∷ reads) [] = 0
-weighed f (r ∷ reads) (n ∷ numbers) = n * f r + weighed f reads numbers
 
 -- over the tensors that are read, width times what f gives
 abbrev pub supplied : List ℕ → List Read → (ℕ → ℕ) → ℕ
@@ -54,8 +49,10 @@ hold_after looped kind read hold =
 pub record Moves (weights : List ℕ) (reads : List Read) (hold need hold' need' : List ℕ) (arc : Arc) : Type 0 where
   pub hold_size : length hold' ≡ length hold
   pub need_size : length need' ≡ length need
-  pub conserves : (e s : ℕ → ℕ) → comes_in weights reads hold' need' e s + goes_out weights reads hold need e s + node_potential (length weights) e s arc.from
-      ≡ goes_out weights reads hold' need' e s + comes_in weights reads hold need e s + node_potential (length weights) e s arc.to
+  pub conserves : (e s : ℕ → ℕ) → comes_in weights reads hold' need' e s + goes_out weights reads hold need e s
+      + node_potential (length weights) e s arc.from
+      ≡ goes_out weights reads hold' need' e s + comes_in weights reads hold need e s
+      + node_potential (length weights) e s arc.to
   pub value : value_of reads hold' need' ≡ value_of reads hold need +ℤ arc.length
   pub hold_up : (i : ℕ) → slice_index hold' i ≤ slice_index hold i + 1
   pub need_up : (i : ℕ) → slice_index need' i ≤ slice_index need i + 1
