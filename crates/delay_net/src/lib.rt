@@ -11,7 +11,7 @@ mod timing;
 
 pub use certificate::{check, is_balanced};
 pub use flow::{Amounts, Flow};
-pub use limits::MOST_TENSORS;
+pub use limits::{DELAY_END, MOST_BITS, MOST_OFFSET, MOST_READS, MOST_TENSORS};
 pub use net::{Net, Read};
 /// Want of memory.
 pub use std::alloc::AllocError as NoMemory;

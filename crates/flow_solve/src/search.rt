@@ -49,6 +49,21 @@ fn go_on(step: Step, length: i64, mark: &mut Mark) -> bool
     true
 }
 
+// Goes on by a step, if the amounts let a unit along it and that leads further, and answers whether
+// it does.
+fn try_step(step: Step, so_far: i64, hold: &[u32], need: &[u32], marks: &mut [Mark]) -> bool
+    requires step { IsStep (length hold.now) step }
+    requires needs { length need.now ≡ length hold.now }
+    requires marks { AreMarks (length hold.now) marks.old }
+    ensures { AreMarks (length hold.now) marks.new }
+{
+    if room(step, hold, need) == 0 {
+        return false;
+    }
+    let longer = so_far.saturating_add(step.arc.length);
+    go_on(step, longer, &mut marks[step.arc.to as usize])
+}
+
 // Goes on by the steps that leave a node, the first of these, and answers whether one led further.
 fn go_on_from(
     steps: &[Step],
@@ -68,8 +83,7 @@ fn go_on_from(
         if step.arc.from != node {
             break;
         }
-        let longer = so_far.saturating_add(step.arc.length);
-        if room(*step, hold, need) > 0 && go_on(*step, longer, &mut marks[step.arc.to as usize]) {
+        if try_step(*step, so_far, hold, need, marks) {
             further = true;
         }
     }

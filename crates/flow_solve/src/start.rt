@@ -41,6 +41,7 @@ pub(crate) fn first_certificate(alloc: Global, net: &Net) -> Result<Certificate,
     if is_balanced(net, &proposed.hold, &proposed.need) {
         return Ok(proposed);
     }
+    drop(proposed);
     let hold = first_amounts(alloc, net)?;
     let need = Vec::from_slice(alloc, &hold)?;
     Ok(Certificate { hold, need })

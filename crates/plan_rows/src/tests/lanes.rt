@@ -1,12 +1,12 @@
-use super::*;
+use reuse_chain::{gaps, taps};
 use std::test::Fail;
 
 // Ages, a lane and an unroll factor, and the taps and gaps of that lane.
-type Case<'a> = (&'a [u64], u32, u32, &'a [u64], &'a [u64]);
+type Row<'a> = (&'a [u64], u32, u32, &'a [u64], &'a [u64]);
 
 #[test]
 fn lanes(rt: HostRuntime) -> Result<(), Fail> {
-    let cases: [Case; 10] = [
+    let rows: [Row; 10] = [
         (&[0, 1, 2], 1, 2, &[0, 1], &[0, 1]),
         (&[4000, 2000, 0], 5, 16, &[0, 125, 250], &[0, 125, 125]),
         (&[], 0, 1, &[], &[]),
@@ -24,7 +24,7 @@ fn lanes(rt: HostRuntime) -> Result<(), Fail> {
         ),
         (&[12, 4, 8], 0, 1, &[4, 8, 12], &[4, 4, 4]),
     ];
-    for (ages, lane, unroll, taps_wanted, gaps_wanted) in cases {
+    for (ages, lane, unroll, taps_wanted, gaps_wanted) in rows {
         assert!(rt; ages.iter().all(|age| *age < 1 << 62));
         assert!(rt; lane < unroll && unroll <= 64);
         let taps = taps(rt.alloc(), ages, lane, unroll)?;
