@@ -2,8 +2,9 @@
 use Rattle.std.specs.Prelude.{◌≡◌, ℕ, zero, suc, ◌+◌, ◌%◌, ◌==◌, nat_le, List, [], ◌∷◌, ◌++◌, length, Option, Some, None, ℤ, pos, if◌then◌else◌}
 use Rattle.std.specs.Fmt.{signed_decimal}
 use Rattle.soda_words.specs.Names.{behind}
-use Rattle.soda_ir.specs.Program.{IsArray, PlainProgram}
-use Rattle.soda_ir.specs.Sums.{uint8}
+use Rattle.soda_eval.specs.Runs.{IsArray}
+use Rattle.soda_ir.specs.Program.{PlainProgram}
+use Rattle.soda_eval.specs.Sums.{uint8}
 use Rattle.job_parts.specs.Scan.{◌>>=◌, number_at}
 
 -- what stands behind cell number i, where a line has `run` cells: a line feed behind the last of a line, else a blank
@@ -30,7 +31,8 @@ pub record AreCells (n : ℕ) (bytes : List ℕ) (cells : List ℤ) : Type 0 whe
 
 -- a cell at the front with its line feed, and what follows it
 unfoldable pub cell_line_at : List ℕ → Option (ℤ × List ℕ)
-cell_line_at bs = number_at bs >>= (λ n. if nat_le n.0 255 then (behind (10 ∷ []) n.1 >>= (λ rest. Some (pos n.0, rest))) else None)
+cell_line_at bs = number_at bs >>= (λ n. if nat_le n.0 255 then
+    (behind (10 ∷ []) n.1 >>= (λ rest. Some (pos n.0, rest))) else None)
 
 -- n cells at the front, and what follows them
 unfoldable pub cell_lines_at : ℕ → List ℕ → Option (List ℤ × List ℕ)

@@ -5,7 +5,7 @@ use Rattle.std.proofs.lemmas.Bool.{and_from, and_parts}
 use Rattle.std.proofs.lemmas.List.{map-append, take-append-drop, take_more}
 use Rattle.std.proofs.lemmas.List.Folds.{list_any-append}
 use Rattle.soda_words.specs.Names.{is_free_name, is_word}
-use Rattle.soda_words.proofs.Tables.{is_word-same}
+use Rattle.soda_words.proofs.CallerLemmas.{is_word-same}
 use Rattle.soda_ir.specs.declared.program.Param.{Param}
 use Rattle.soda_ir.specs.declared.program.Tensor.{Tensor}
 use Rattle.soda_ir.specs.Program.{PlainParam, PlainTensor, plain_param, plain_tensor}

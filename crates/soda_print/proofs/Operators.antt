@@ -3,7 +3,7 @@ use Rattle.std.proofs.Common.{◌≡◌, ℕ, Bool, true, false, ◌==◌, List,
 use Rattle.soda_words.specs.declared.operators.UnOp.{UnOp}
 use Rattle.soda_words.specs.declared.operators.BinOp.{BinOp}
 use Rattle.soda_ir.specs.Written.{binary_level, unary_level}
-use Rattle.soda_ir.proofs.Tree.{levels}
+use Rattle.soda_ir.proofs.CallerLemmas.{levels}
 use Rattle.soda_print.specs.Canonical.{binary_text, binary_word, opening, closing, listed, unary_text, unary_word}
 use Rattle.soda_print.specs.Steps.{binary_begin, binary_end, binary_middle, unary_begin, unary_end}
 
