@@ -4,7 +4,9 @@ use Rattle.soda_words.specs.declared.operators.UnOp.{UnOp}
 use Rattle.soda_words.specs.declared.operators.UnOp.TheVariants.{Abs}
 use Rattle.soda_words.specs.declared.operators.BinOp.{BinOp}
 use Rattle.soda_words.specs.declared.operators.BinOp.TheVariants.{Min, Max}
+use Rattle.soda_words.specs.Limits.{most_sizes}
 use Rattle.soda_words.specs.Names.{is_cast_word, is_word}
+use Rattle.soda_words.specs.OperatorTable.{binary_row, unary_row}
 use Rattle.soda_words.specs.declared.symbol.Symbol.{Symbol}
 use Rattle.soda_words.specs.declared.symbol.Symbol.TheVariants.{MinusSign, OpenRound, CloseRound, OpenSquare, CloseSquare, Comma}
 use Rattle.soda_words.specs.declared.token.Placed.{Placed}
@@ -137,7 +139,11 @@ after fs t _ = None
 -- what a word begins
 abbrev pub word_mode : Word → Mode
 word_mode w =
-    if is_cast_word w.text then called (in_cast w) else (if is_word (codes "min") w.text then called (in_first Min) else (if is_word (codes "max") w.text then called (in_first Max) else (if is_word (codes "abs") w.text then called in_abs else (if is_word (codes "select") w.text then called in_test else named w))))
+    if is_cast_word w.text then called (in_cast w) else
+    (if is_word (binary_row Min).spelling w.text then called (in_first Min) else
+    (if is_word (binary_row Max).spelling w.text then called (in_first Max) else
+    (if is_word (unary_row Abs).spelling w.text then called in_abs else
+    (if is_word (codes "select") w.text then called in_test else named w))))
 
 -- a bracket where an operand is wanted
 abbrev pub group_begun : Symbol → List Frame → Option State
@@ -179,7 +185,7 @@ name_followed none w fs t = after fs (value w []) t
 
 -- a token behind some indexes
 abbrev pub index_followed : Opening → Word → List ℕ → List Frame → Token → Option State
-index_followed square w is fs t = if nat_lt (length is) 2 then in_state (at_index w is) fs else None
+index_followed square w is fs t = if nat_lt (length is) most_sizes then in_state (at_index w is) fs else None
 index_followed round w is fs t = None
 index_followed none w is fs t = after fs (value w is) t
 

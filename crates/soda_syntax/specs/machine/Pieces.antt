@@ -8,8 +8,8 @@ use Rattle.soda_syntax.specs.declared.stage.Stage.{Stage}
 use Rattle.soda_syntax.specs.declared.stage.Stage.TheVariants.{Start, Formula}
 use Rattle.soda_formula.specs.declared.statement.Statement.{Statement}
 use Rattle.soda_formula.specs.Statements.{PlainStatement, plain_statement}
-use Rattle.soda_syntax.specs.Lines.{line_of}
-use Rattle.soda_syntax.specs.Machine.{step, steps, stage_of, finish}
+use Rattle.soda_syntax.specs.machine.Lines.{line_of}
+use Rattle.soda_syntax.specs.machine.Steps.{step, steps, stage_of, finish}
 
 -- the left side before a formula
 abbrev pub left_of : Stage → Option LeftSide

@@ -1,5 +1,6 @@
 -- A statement, one token at a time: what each token makes of what is read of it.
 use Rattle.std.specs.Prelude.{ℕ, true, false, nat_lt, List, [], ◌∷◌, ◌++◌, length, codes, Option, Some, None, ℤ, pos, neg_ℤ, if◌then◌else◌}
+use Rattle.soda_words.specs.Limits.{most_sizes}
 use Rattle.soda_words.specs.Names.{is_word}
 use Rattle.soda_words.specs.declared.symbol.Symbol.TheVariants.{OpenRound, CloseRound, OpenSquare, CloseSquare, MinusSign, Star, Comma, Colon, EqualSign, Dot}
 use Rattle.soda_words.specs.declared.token.Placed.{Placed}
@@ -30,12 +31,20 @@ headed setting line = Goes (SettingColon (record { setting = setting; line = lin
 -- behind a first word that begins no setting
 abbrev pub declaring : List ℕ → Next
 declaring w =
-    if is_word (codes "param") w then Goes (TypeWord Parameter) else (if is_word (codes "input") w then Goes (BankOrType Source) else (if is_word (codes "local") w then Goes (TypeWord Middle) else (if is_word (codes "output") w then Goes (BankOrType Target) else Wrong)))
+    if is_word (codes "param") w then Goes (TypeWord Parameter) else
+    (if is_word (codes "input") w then Goes (BankOrType Source) else
+    (if is_word (codes "local") w then Goes (TypeWord Middle) else
+    (if is_word (codes "output") w then Goes (BankOrType Target) else Wrong)))
 
 -- behind a first word
 abbrev pub begun : ℕ → List ℕ → Next
 begun line w =
-    if is_word (codes "kernel") w then headed ProgramName line else (if is_word (codes "burst") w then Goes (WidthWord line) else (if is_word (codes "unroll") w then Goes (FactorWord line) else (if is_word (codes "iterate") w then headed Times line else (if is_word (codes "border") w then headed Edge line else (if is_word (codes "cluster") w then headed Group line else declaring w)))))
+    if is_word (codes "kernel") w then headed ProgramName line else
+    (if is_word (codes "burst") w then Goes (WidthWord line) else
+    (if is_word (codes "unroll") w then Goes (FactorWord line) else
+    (if is_word (codes "iterate") w then headed Times line else
+    (if is_word (codes "border") w then headed Edge line else
+    (if is_word (codes "cluster") w then headed Group line else declaring w)))))
 
 abbrev pub after_nothing : ℕ → Token → Next
 after_nothing line (Name w) = begun line w
@@ -56,7 +65,8 @@ after_heading h _ = Wrong
 -- the word for what is outside the outputs' regions
 abbrev pub edge_value : ℕ → List ℕ → Next
 edge_value line w =
-    if is_word (codes "ignore") w then Goes (Finished (Border line false)) else (if is_word (codes "preserve") w then Goes (Finished (Border line true)) else Wrong)
+    if is_word (codes "ignore") w then Goes (Finished (Border line false)) else
+    (if is_word (codes "preserve") w then Goes (Finished (Border line true)) else Wrong)
 
 -- a name as the value of a setting
 abbrev pub named_value : Setting → ℕ → List ℕ → Next
@@ -117,7 +127,7 @@ at_name role ty line (Name w) = Goes (declared_as role ty (record { line = line;
 at_name role ty line _ = Wrong
 
 abbrev pub after_sizes : ParamLine → Token → Next
-after_sizes p (Sign OpenSquare) = if nat_lt (length p.sizes) 2 then Goes (SizeNumber p) else Whole (Param p)
+after_sizes p (Sign OpenSquare) = if nat_lt (length p.sizes) most_sizes then Goes (SizeNumber p) else Whole (Param p)
 after_sizes p _ = Whole (Param p)
 
 abbrev pub more_sizes : ParamLine → ℕ → ℕ → ParamLine

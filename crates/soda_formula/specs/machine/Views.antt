@@ -14,11 +14,12 @@ use Rattle.soda_formula.specs.declared.frame.Opening.{Opening as Bracket}
 use Rattle.soda_formula.specs.declared.frame.Opening.TheVariants as bracket
 use Rattle.soda_formula.specs.declared.size.Place.{Place as Spot}
 use Rattle.soda_formula.specs.declared.size.Place.TheVariants as spot
+use Rattle.soda_formula.specs.declared.written.Written.{Written}
 use Rattle.soda_formula.specs.Reading.{Place, outside, behind_name, in_offsets}
 use Rattle.soda_formula.specs.Terms.{Term}
 use Rattle.soda_formula.specs.Tree.{term_of}
 use Rattle.soda_formula.specs.Grammar.{Infix}
-use Rattle.soda_formula.specs.Machine.{Frame, behind_prefix, behind_infix, in_group, in_cast, in_abs, in_first, in_second, in_test, in_then, in_else, Mode, wanted, called, whole, named, at_component, at_magnitude, behind_component, at_index, at_close, indexed, State, reduce, Opening, round, square, none}
+use Rattle.soda_formula.specs.machine.Steps.{Frame, behind_prefix, behind_infix, in_group, in_cast, in_abs, in_first, in_second, in_test, in_then, in_else, Mode, wanted, called, whole, named, at_component, at_magnitude, behind_component, at_index, at_close, indexed, State, Held, reduce, Opening, round, square, none}
 
 abbrev pub infix_as : Operator → Infix
 infix_as i = record { level = i.level; op = i.op }
@@ -68,6 +69,10 @@ place_as spot.InOffsets = in_offsets
 abbrev pub state_of : Reader → State
 state_of r = record { mode = mode_of r.mode; frames = frames_of r.frames }
 
+-- an operand, and the frames around it
+abbrev pub held : List Waiting → Written → Held
+held fs w = record { frames = frames_of fs; term = term_of w }
+
 -- what a token did is this: the state behind it, if there is one, and else the formula in front of it
 abbrev pub IsFed : Option State → Option Term → Fed → Type 0
 IsFed next found (On r) = Some (state_of r) ≡ next
@@ -78,4 +83,4 @@ abbrev pub IsTaken : ℕ → List Waiting → List Waiting → Term → Taken �
 IsTaken level before fs t (Again w) =
     (reduce level (frames_of before) t ≡ reduce level (frames_of fs) (term_of w)) × (length fs < length before)
 IsTaken level before fs t (Done w) =
-    reduce level (frames_of before) t ≡ record { frames = frames_of fs; term = term_of w }
+    reduce level (frames_of before) t ≡ held fs w
