@@ -1,5 +1,5 @@
 use Rattle.soda_parse.proofs.Values.{multiplied}
-use Rattle.soda_parse.proofs.limits.add_values.Goals as goal
+use Rattle.soda_parse.proofs.conditions.add_values.Goals as goal
 
 pub returns : goal.returns
 returns c =

@@ -2,7 +2,7 @@ use Rattle.std.proofs.Common.{◌∙◌, sym, arith}
 use Rattle.std.proofs.lemmas.Bool.Decides.{nat_tests}
 use Rattle.std.proofs.lemmas.Int.{ints, to_z-of_z}
 use Rattle.soda_parse.proofs.Offsets.{far_more}
-use Rattle.soda_parse.proofs.limits.far_component.Goals as goal
+use Rattle.soda_parse.proofs.conditions.far_component.Goals as goal
 
 pub loop-i-preserved : goal.loop-i-preserved
 loop-i-preserved c =

@@ -52,7 +52,8 @@ pub(super) const ROWS: [(&str, &str); 51] = [
         "BadWidth(5)",
     ),
     (
-        "input uint8: a(*)\nlocal int64: p(0) = 1\nlocal uint64: q(0) = 1\noutput uint8: o(0) = int2(a(0)) + uint1(q(0)) - p(0)\n",
+        "input uint8: a(*)\nlocal int64: p(0) = 1\nlocal uint64: q(0) = 1\n\
+         output uint8: o(0) = int2(a(0)) + uint1(q(0)) - p(0)\n",
         "accepted",
     ),
     (
@@ -113,7 +114,8 @@ pub(super) const ROWS: [(&str, &str); 51] = [
         "PreserveMismatch",
     ),
     (
-        "border: preserve\ninput uint8: a(*)\noutput uint8: o(0) = (a(-1) + a(0) + a(1)) / 3\noutput uint8: p(0) = a(0)\n",
+        "border: preserve\ninput uint8: a(*)\noutput uint8: o(0) = (a(-1) + a(0) + a(1)) / 3\n\
+         output uint8: p(0) = a(0)\n",
         "PreserveMismatch",
     ),
     (

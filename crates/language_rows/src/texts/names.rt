@@ -50,7 +50,8 @@ pub(super) const ROWS: [(&str, &str); 44] = [
         "accepted",
     ),
     (
-        "input uint8: a(*)\nlocal uint8: p(0) = a(0) output uint8: o(0) = p(1)\nlocal uint8: q(0) = a(0) local uint8: p(0) = 1",
+        "input uint8: a(*)\nlocal uint8: p(0) = a(0) output uint8: o(0) = p(1)\n\
+         local uint8: q(0) = a(0) local uint8: p(0) = 1",
         "NameTwice(6)",
     ),
     ("", "Missing(Input)"),

@@ -12,6 +12,7 @@ use Rattle.soda_ir.specs.Points.{size}
 use Rattle.soda_ir.specs.Program.{PlainProgram, PlainParam, input_types, preserves}
 use Rattle.soda_ir.specs.Valid.{fills_burst, output_types}
 use Rattle.soda_parse.specs.Meaning.{shifted}
+use Rattle.soda_words.specs.Limits.{most_tile, most_offset, most_values, least_burst, most_burst}
 use Rattle.soda_words.specs.Tokens.{or_else}
 
 -- the line of the first of these locals and outputs that cannot be placed, where the first is the tensor of this number
@@ -59,9 +60,9 @@ abbrev pub partial_products : ℕ → List ℕ → List ℕ
 partial_products n [] = []
 partial_products n (k ∷ ks) = n * k ∷ partial_products (n * k) ks
 
--- Limit tile: the product of the fixed extents is at most 16,777,216; the first partial product past that
+-- Limit tile: the first partial product of the fixed extents that passes the most
 abbrev pub tile_past : PlainProgram → Option ℕ
-tile_past p = first_past 16777216 (partial_products 1 p.extents)
+tile_past p = first_past most_tile (partial_products 1 p.extents)
 
 -- the magnitudes of the components of a cell of a tensor, with the left side subtracted
 abbrev pub site_magnitudes : Outline → List ℤ → Site → List ℕ
@@ -77,12 +78,13 @@ left_behind left (Left w offsets) = offsets
 left_behind left (Cell w offsets) = left
 left_behind left (Value w indexes) = left
 
--- the first magnitude past 32,768 of the cells of tensors at these sites, with the left side before each subtracted
+-- the first magnitude past the most of the cells of tensors at these sites, with the left side before each subtracted
 abbrev pub far_from : Outline → List ℤ → List Site → Option ℕ
 far_from o left [] = None
-far_from o left (s ∷ ss) = or_else (first_past 32768 (site_magnitudes o left s)) (far_from o (left_behind left s) ss)
+far_from o left (s ∷ ss) =
+    or_else (first_past most_offset (site_magnitudes o left s)) (far_from o (left_behind left s) ss)
 
--- Limit offset: each such magnitude is at most 32,768; the first past that
+-- Limit offset: the first such magnitude of the sites of all statements
 abbrev pub offset_past : Outline → Option ℕ
 offset_past o = far_from o [] o.sites
 
@@ -91,19 +93,21 @@ abbrev pub param_products : List ℕ → List ℕ
 param_products [] = 1 ∷ []
 param_products (n ∷ ns) = partial_products 1 (n ∷ ns)
 
--- the first that passes 65,536 among the values of all params before these together with each partial product of these in turn
+-- the first that passes the most among the values of all params before these together with each partial product of
+-- these in turn
 abbrev pub values_past : ℕ → List PlainParam → Option ℕ
 values_past before [] = None
 values_past before (q ∷ qs) =
-    or_else (first_past 65536 (map (λ n. before + n) (param_products q.sizes))) (values_past (before + size q.sizes) qs)
+    or_else (first_past most_values (map (λ n. before + n) (param_products q.sizes)))
+    (values_past (before + size q.sizes) qs)
 
--- Limit params: all params together have at most 65,536 values; the first running sum past that
+-- Limit params: the first running sum of the values of all params that passes the most
 abbrev pub params_past : PlainProgram → Option ℕ
 params_past p = values_past 0 p.params
 
--- from 8 to 8,192, and whole cells of each input and output fill it
+-- from the least to the most, and whole cells of each input and output fill it
 abbrev pub has_good_burst : PlainProgram → Bool
-has_good_burst p = nat_le 8 p.burst && nat_le p.burst 8192 && list_all (fills_burst p.burst) p.tensors
+has_good_burst p = nat_le least_burst p.burst && nat_le p.burst most_burst && list_all (fills_burst p.burst) p.tensors
 
 -- Burst width: the width, if it is not good
 abbrev pub bad_burst : PlainProgram → Option ℕ

@@ -4,24 +4,17 @@ ghost use Rattle.std.specs.List.{list_all};
 ghost use Rattle.soda_ir.specs.Valid.{fills_burst};
 ghost use Rattle.soda_ir.specs.Points.{size};
 ghost use Rattle.soda_ir.specs.Program.{plain, plain_param, preserves};
-ghost use Rattle.soda_parse.specs.Limits.{bad_burst, has_good_burst, circular, circular_from, first_past, iterate_mismatch, offset_past, outputs_fit, param_products, partial_products, values_past, preserve_mismatch, left_behind, site_magnitudes, unless_within};
+ghost use Rattle.soda_parse.specs.ProgramConditions.{bad_burst, has_good_burst, circular, circular_from, first_past, iterate_mismatch, offset_past, outputs_fit, param_products, partial_products, values_past, preserve_mismatch, left_behind, site_magnitudes, unless_within};
 ghost use Rattle.soda_checks.specs.Names.{names_of};
 ghost use Rattle.soda_parse.specs.Meaning.{shifted};
+ghost use Rattle.soda_words.specs.Limits.{most_offset, most_tile, most_values};
 
 use crate::NoMemory;
 use crate::formulas::component;
 use soda_checks::{Defined, Names, Outline, Site, is_tensor};
 use soda_ir::{Border, Param, Parts, fill_burst, placed_tensors};
+use soda_words::{LEAST_BURST, MOST_BURST, MOST_OFFSET, MOST_TILE, MOST_VALUES};
 use std::alloc::Global;
-
-/// The most cells of the fixed extents together.
-const MOST_CELLS: u128 = 16_777_216;
-
-/// The greatest magnitude of an offset's component.
-const FARTHEST: u128 = 32_768;
-
-/// The most values of all params together.
-const MOST_VALUES: u128 = 65_536;
 
 fn is_marked(marks: &[bool], place: usize) -> bool
     ensures { result ≡ slice_index_or marks.now place false }
@@ -113,12 +106,12 @@ pub(crate) fn unless_within(least: u128, most: u128, number: u128) -> Option<u12
 
 /// The first partial product of the fixed extents that passes the most.
 pub(crate) fn tile_past(extents: &[u64]) -> Option<u128>
-    ensures { result ≡ first_past 16777216 (partial_products 1 extents.now) }
+    ensures { result ≡ first_past most_tile (partial_products 1 extents.now) }
 {
     let mut product = 1;
     for extent in extents {
         product = product * *extent as u128;
-        if product > MOST_CELLS {
+        if product > MOST_TILE as u128 {
             return Some(product);
         }
     }
@@ -127,11 +120,11 @@ pub(crate) fn tile_past(extents: &[u64]) -> Option<u128>
 
 // The first magnitude of an offset with the left side subtracted that is too great.
 fn far_component(offsets: &[i128], left: &[i128]) -> Option<u128>
-    ensures { result ≡ first_past 32768 (map unsigned_abs (shifted offsets.now left.now)) }
+    ensures { result ≡ first_past most_offset (map unsigned_abs (shifted offsets.now left.now)) }
 {
     for (i, d) in offsets.iter().enumerate() {
         let magnitude = d.abs_diff(component(left, i));
-        if magnitude > FARTHEST {
+        if magnitude > MOST_OFFSET as u128 {
             return Some(magnitude);
         }
     }
@@ -141,7 +134,7 @@ fn far_component(offsets: &[i128], left: &[i128]) -> Option<u128>
 // The same of a cell of a tensor, and None for another name.
 fn far_cell(outline: &Outline, names: &Names, site: &Site, left: &[i128]) -> Option<u128>
     requires { names.now ≡ names_of outline.now }
-    ensures { result ≡ first_past 32768 (site_magnitudes outline.now left.now site.now) }
+    ensures { result ≡ first_past most_offset (site_magnitudes outline.now left.now site.now) }
 {
     match site {
         Site::Size(_) => None,
@@ -188,8 +181,11 @@ pub(crate) fn offset_past(outline: &Outline, names: &Names) -> Option<u128>
 // The values of one more param together with those before; or the first sum with a partial product
 // that is too great.
 fn add_values(before: u128, sizes: &[u64]) -> Result<u128, u128>
-    requires { before ≤ 65536 }
-    ensures { MatchResult result (λ sum. (sum ≤ 65536) × (sum ≡ before + size sizes.now) × (first_past 65536 (map (λ n. before + n) (param_products sizes.now)) ≡ None)) (λ kept. first_past 65536 (map (λ n. before + n) (param_products sizes.now)) ≡ Some kept) }
+    requires { before ≤ most_values }
+    ensures { MatchResult result
+        (λ sum. (sum ≤ most_values) × (sum ≡ before + size sizes.now) ×
+        (first_past most_values (map (λ n. before + n) (param_products sizes.now)) ≡ None))
+        (λ kept. first_past most_values (map (λ n. before + n) (param_products sizes.now)) ≡ Some kept) }
 {
     if sizes.len() == 0 {
         return add_one(before);
@@ -197,7 +193,7 @@ fn add_values(before: u128, sizes: &[u64]) -> Result<u128, u128>
     let mut product = 1;
     for size in sizes {
         product = product * *size as u128;
-        if before + product > MOST_VALUES {
+        if before + product > MOST_VALUES as u128 {
             return Err(before + product);
         }
     }
@@ -206,10 +202,11 @@ fn add_values(before: u128, sizes: &[u64]) -> Result<u128, u128>
 
 // The same of a param with no size, which is one value.
 fn add_one(before: u128) -> Result<u128, u128>
-    requires { before ≤ 65536 }
-    ensures { MatchResult result (λ sum. (sum ≤ 65536) × (sum ≡ before + 1)) (λ kept. (65536 < kept) × (kept ≡ before + 1)) }
+    requires { before ≤ most_values }
+    ensures { MatchResult result
+        (λ sum. (sum ≤ most_values) × (sum ≡ before + 1)) (λ kept. (most_values < kept) × (kept ≡ before + 1)) }
 {
-    if before + 1 > MOST_VALUES {
+    if before + 1 > MOST_VALUES as u128 {
         Err(before + 1)
     } else {
         Ok(before + 1)
@@ -241,7 +238,7 @@ fn are_filled(parts: &Parts) -> bool
 fn has_good_burst(parts: &Parts) -> bool
     ensures { result ≡ has_good_burst (plain parts.now) }
 {
-    8 <= parts.burst && parts.burst <= 8192 && are_filled(parts)
+    LEAST_BURST <= parts.burst && parts.burst <= MOST_BURST && are_filled(parts)
 }
 
 /// The burst width, if it isn't one that whole cells of each input and output fill.

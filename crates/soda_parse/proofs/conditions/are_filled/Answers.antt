@@ -3,7 +3,7 @@ use Rattle.std.specs.List.{list_all}
 use Rattle.std.proofs.lemmas.List.Folds.{list_all-map}
 use Rattle.soda_ir.specs.Program.{plain_tensor}
 use Rattle.soda_ir.specs.Valid.{fills_burst}
-use Rattle.soda_parse.proofs.limits.are_filled.Goals as goal
+use Rattle.soda_parse.proofs.conditions.are_filled.Goals as goal
 
 pub returns : goal.returns
 returns c =
