@@ -54,7 +54,10 @@ has_output ds = list_any (λ d. d.is_output) ds
 -- Missing: the first need that no statement fills
 abbrev pub missing : Outline → Option Need
 missing o =
-    or_else (need_unless (list_any (is_kind Kernel) o.settings) NeedKernel) (or_else (need_unless (list_any (is_kind BurstWidth) o.settings) NeedWidth) (or_else (need_unless (list_any (is_kind UnrollFactor) o.settings) NeedFactor) (or_else (need_unless (not (length o.inputs == 0)) NeedInput) (need_unless (has_output o.defined) NeedOutput))))
+    or_else (need_unless (list_any (is_kind Kernel) o.settings) NeedKernel)
+    (or_else (need_unless (list_any (is_kind BurstWidth) o.settings) NeedWidth)
+    (or_else (need_unless (list_any (is_kind UnrollFactor) o.settings) NeedFactor)
+    (or_else (need_unless (not (length o.inputs == 0)) NeedInput) (need_unless (has_output o.defined) NeedOutput))))
 
 -- the line of the first setting that repeats one of its kind, among these or before it
 abbrev pub twice_behind : List Setting → List Setting → Option ℕ
