@@ -1,6 +1,6 @@
 -- Texts that are put together part by part.
 use Rattle.std.proofs.Common.{◌≡◌, ℕ, List, [], ◌∷◌, ◌++◌, refl, codes, append-nil, append_assoc}
-use Rattle.soda_ir.proofs.Tree.{levels}
+use Rattle.soda_ir.proofs.CallerLemmas.{levels}
 use Rattle.soda_print.specs.Canonical.{parted}
 
 -- what stands in front of more is parted from it
