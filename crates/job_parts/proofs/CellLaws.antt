@@ -9,7 +9,7 @@ use Rattle.std.proofs.lemmas.List.Elements.{All-cons, All-head, All-nil, All-tai
 use borrow.Author.Tests.{leb-true, le-leb}
 use Rattle.int_types.specs.Ranges.{InRange}
 use Rattle.soda_words.specs.Names.{behind}
-use Rattle.soda_ir.specs.Sums.{uint8}
+use Rattle.soda_eval.specs.Sums.{uint8}
 use Rattle.job_parts.specs.Cells.{AreCells, all_cells_at, cell_line_at, cell_lines_at, parting, text_from}
 use Rattle.job_parts.specs.Scan.{◌>>=◌, number_at}
 use Rattle.job_parts.proofs.Spelled.{behind_takes, bind_is, bind_ok, if_some, if_takes, number_again, number_takes, some_inj}

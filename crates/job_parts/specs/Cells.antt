@@ -2,8 +2,9 @@
 use Rattle.std.specs.Prelude.{◌≡◌, ℕ, zero, suc, ◌+◌, ◌%◌, ◌==◌, nat_le, List, [], ◌∷◌, ◌++◌, length, Option, Some, None, ℤ, pos, if◌then◌else◌}
 use Rattle.std.specs.Fmt.{signed_decimal}
 use Rattle.soda_words.specs.Names.{behind}
-use Rattle.soda_ir.specs.Program.{IsArray, PlainProgram}
-use Rattle.soda_ir.specs.Sums.{uint8}
+use Rattle.soda_eval.specs.Runs.{IsArray}
+use Rattle.soda_ir.specs.Program.{PlainProgram}
+use Rattle.soda_eval.specs.Sums.{uint8}
 use Rattle.job_parts.specs.Scan.{◌>>=◌, number_at}
 
 -- what stands behind cell number i, where a line has `run` cells: a line feed behind the last of a line, else a blank

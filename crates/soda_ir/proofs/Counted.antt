@@ -7,7 +7,7 @@ use Rattle.soda_ir.specs.declared.reads.Read.{Read}
 use Rattle.soda_ir.specs.Counts.{border_reads, count_below, distinct_count, does_read, formula_in, formula_reads, is_input, is_live, is_live_statement, is_output, is_output_role, is_reached, is_wanted, output_number, reads_in, sum_below, tensor_reads}
 use Rattle.soda_ir.specs.Points.{listed}
 use Rattle.soda_ir.specs.Program.{PlainProgram, extents_at, preserves}
-use Rattle.soda_ir.specs.Arrays.{by_formula}
+use Rattle.soda_ir.specs.Formula.{by_formula}
 use Rattle.soda_ir.proofs.Lists.{ext, get-listed, get-listed-past, length-listed}
 use Rattle.soda_ir.proofs.Reached.{count_below_same, sum_below_same}
 use Rattle.soda_ir.proofs.Settled.{past_last}

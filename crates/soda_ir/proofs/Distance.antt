@@ -5,7 +5,7 @@ use Rattle.std.proofs.lemmas.Bool.{and_from, and_parts, leb-true}
 use Rattle.std.proofs.lemmas.Grind.{common_steps}
 use Rattle.std.proofs.lemmas.Int.{ints, unsigned_abs-mul}
 use Rattle.std.proofs.lemmas.List.{append-nil, append_assoc}
-use Rattle.soda_ir.specs.Arrays.{every}
+use Rattle.soda_ir.specs.Formula.{every}
 use Rattle.soda_ir.specs.Counts.{IsCountable, border_reads, formula_in, is_output, output_number, reach}
 use Rattle.soda_ir.specs.Formula.{Formula, number, read, param, unary, binary, choice, cast}
 use Rattle.soda_ir.specs.Points.{linear, size}

@@ -5,7 +5,7 @@ use Rattle.std.proofs.lemmas.Bool.{and_from, and_parts, false≢true}
 use Rattle.std.proofs.lemmas.List.Folds.{list_all-map}
 use Rattle.soda_words.specs.Names.{is_name}
 use Rattle.soda_ir.specs.declared.program.Parts.{Parts}
-use Rattle.soda_ir.specs.Arrays.{every}
+use Rattle.soda_ir.specs.Formula.{every}
 use Rattle.soda_ir.specs.Counts.{IsCountable, is_input_role, is_output_role}
 use Rattle.soda_ir.specs.Formula.{Formula, number, read, param, unary, binary, choice, cast}
 use Rattle.soda_ir.specs.Program.{PlainProgram, PlainTensor, plain, plain_param, plain_tensor}

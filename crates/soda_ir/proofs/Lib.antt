@@ -1,6 +1,5 @@
-pub mod Tree
-pub mod Starts
-pub mod SumTest
+pub mod CallerLemmas
+pub mod Formulas
 pub mod Groups
 pub mod FreeNames
 pub mod Counted
@@ -10,12 +9,3 @@ pub mod Sizes
 pub mod Settled
 pub mod Rounds
 pub mod Lists
-pub mod Steps
-pub mod Values
-pub mod Touched
-pub mod Depth
-pub mod Numbers
-pub mod From
-pub mod Sum
-mod Examples
-mod ValidExamples

@@ -3,7 +3,7 @@ use Rattle.std.proofs.Common.{◌≡◌, ℕ, zero, suc, ◌+◌, ◌<◌, ◌�
 use Rattle.std.proofs.lemmas.Bool.{cases_eq, cases_lt, false≢true}
 use Rattle.std.proofs.lemmas.List.{get_or-set_other, length-map}
 use Rattle.soda_ir.specs.declared.program.Parts.{Parts}
-use Rattle.soda_ir.specs.Arrays.{by_formula, every}
+use Rattle.soda_ir.specs.Formula.{by_formula, every}
 use Rattle.soda_ir.specs.Counts.{can_be_placed, has_place, tensor_is}
 use Rattle.soda_ir.specs.Points.{listed}
 use Rattle.soda_ir.specs.Program.{PlainProgram, plain, plain_tensor}

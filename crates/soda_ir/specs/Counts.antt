@@ -5,7 +5,7 @@ use Rattle.std.specs.Ordering.{int_eq}
 use Rattle.soda_ir.specs.declared.program.Role.{Role}
 use Rattle.soda_ir.specs.declared.program.Role.TheVariants.{Input, Local, Output}
 use Rattle.soda_ir.specs.declared.reads.Read.{Read}
-use Rattle.soda_ir.specs.Arrays.{by_formula, every}
+use Rattle.soda_ir.specs.Formula.{by_formula, every}
 use Rattle.soda_ir.specs.Formula.{Formula, number, read, param, unary, binary, choice, cast}
 use Rattle.soda_ir.specs.Points.{linear, size}
 use Rattle.soda_ir.specs.Program.{PlainProgram, PlainTensor, extents_at, preserves}

@@ -1,11 +1,8 @@
 pub mod Formula
 pub mod Tree
 pub mod Points
-pub mod Arrays
 pub mod Program
 pub mod Written
 pub mod Uses
 pub mod Counts
 pub mod Valid
-pub mod Sums
-pub mod Examples

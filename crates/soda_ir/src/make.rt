@@ -6,7 +6,6 @@ use crate::NoMemory;
 use crate::live::tally;
 use crate::placing::are_all_placed;
 use crate::program::Parts;
-use crate::reads::is_preserved;
 use crate::unique::are_names_free;
 use crate::valid::{
     are_small, fill_burst, has_few_of_each, has_few_values, has_good_burst, has_good_factors,
@@ -78,7 +77,7 @@ fn has_good_ends(parts: &Parts) -> bool
 fn fits_itself(alloc: Global, parts: &Parts) -> Result<bool, NoMemory>
     ensures { IfOk result (λ fit. IsTrue fit ↔ FitsItself (plain parts.now)) }
 {
-    if parts.iterate == 1 && !is_preserved(parts) {
+    if parts.iterate == 1 && !parts.is_preserved() {
         Ok(true)
     } else {
         outputs_fit(alloc, parts.tensors.as_slice())

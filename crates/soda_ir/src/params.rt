@@ -1,4 +1,4 @@
-ghost use Rattle.std.specs.Prelude.{◌≡◌, ◌≤◌, ◌^◌, length, map, min, take};
+ghost use Rattle.std.specs.Prelude.{◌≡◌, ◌^◌, map, min};
 ghost use Rattle.soda_ir.specs.Points.{size};
 ghost use Rattle.soda_ir.specs.Program.{plain_param};
 ghost use Rattle.soda_ir.specs.Valid.{value_count};
@@ -19,7 +19,7 @@ pub(crate) fn product(sizes: &[u64]) -> u128
 }
 
 /// How many values these params have together, and 2^64 where there are more.
-pub(crate) fn value_count(params: &[Param]) -> u128
+pub fn value_count(params: &[Param]) -> u128
     ensures { result ≡ min (value_count (map plain_param params.now)) (2 ^ 64) }
 {
     let mut count = 0;
@@ -27,12 +27,4 @@ pub(crate) fn value_count(params: &[Param]) -> u128
         count = (count + product(param.sizes.as_slice())).min(MOST);
     }
     count
-}
-
-/// The params in front of one.
-pub(crate) fn first_params(params: &[Param], number: usize) -> &[Param]
-    requires { number ≤ length params.now }
-    ensures { result.now ≡ take number params.now }
-{
-    &params[..number]
 }

@@ -1,5 +1,5 @@
 ghost use Rattle.std.specs.Prelude.{◌≡◌, ◌<◌, ◌^◌, ◌↔◌, ℕ, true, false, length, replicate, slice_index_or, IfOk, IsTrue};
-ghost use Rattle.soda_ir.specs.Arrays.{by_formula, every};
+ghost use Rattle.soda_ir.specs.Formula.{by_formula, every};
 ghost use Rattle.soda_ir.specs.Counts.{can_be_placed, has_place, tensor_is};
 ghost use Rattle.soda_ir.specs.Points.{listed};
 ghost use Rattle.soda_ir.specs.Program.{plain};
@@ -12,7 +12,7 @@ use crate::program::Parts;
 use std::alloc::Global;
 
 // Whether each tensor that a formula reads is marked.
-#[tactic(auto, using(crate::proofs::Tree::levels))]
+#[tactic(auto, using(crate::proofs::CallerLemmas::levels))]
 fn reads_marked(expr: &Expr, marks: &[bool]) -> bool
     ensures { result ≡ every (λ y o. slice_index_or marks.now y false) (formula_of expr.now) }
 {

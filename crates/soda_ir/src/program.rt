@@ -1,15 +1,12 @@
-ghost use Rattle.std.specs.Prelude.{◌≡◌, ◌+◌, ◌^◌, ◌<◌, length, map, min, option_map, pos, slice_index_or, IfOk};
-ghost use Rattle.soda_words.specs.IntType.{int32};
-ghost use Rattle.soda_ir.specs.Counts.{is_input, is_output};
-ghost use Rattle.soda_ir.specs.Program.{plain, scope_of};
+ghost use Rattle.std.specs.Prelude.{◌≡◌, map, option_map, slice_index_or, IfOk};
+ghost use Rattle.soda_ir.specs.Counts.{is_input, is_input_role, is_output, is_output_role};
+ghost use Rattle.soda_ir.specs.Program.{plain, preserves};
 ghost use Rattle.soda_ir.specs.Tree.{formula_of};
 ghost use Rattle.soda_ir.specs.Valid.{IsValid};
 ghost use Rattle.soda_ir.specs.Written.{index_count};
 
 use crate::expr::Expr;
 use crate::make::{MakeRefusal, is_valid};
-use crate::params::{first_params, value_count};
-use crate::uses;
 use soda_words::Ty;
 use sqlite_items::Items;
 use std::alloc::Global;
@@ -35,6 +32,28 @@ pub enum Role {
     Local,
     /// Written to a file.
     Output,
+}
+
+impl Role {
+    /// Whether this is the role of an input.
+    pub fn is_input(self) -> bool
+        ensures { result ≡ is_input_role self }
+    {
+        match self {
+            Role::Input => true,
+            Role::Local | Role::Output => false,
+        }
+    }
+
+    /// Whether this is the role of an output.
+    pub fn is_output(self) -> bool
+        ensures { result ≡ is_output_role self }
+    {
+        match self {
+            Role::Input | Role::Local => false,
+            Role::Output => true,
+        }
+    }
 }
 
 /// What an output's cell is outside its region.
@@ -127,6 +146,16 @@ impl Program {
 }
 
 impl Parts {
+    /// Whether outputs keep the cells of their inputs outside their regions.
+    pub fn is_preserved(&self) -> bool
+        ensures { result ≡ preserves (plain self.now) }
+    {
+        match self.border {
+            Border::Ignore => false,
+            Border::Preserve => true,
+        }
+    }
+
     /// How many indexes a param has, and 0 past the last param.
     pub(crate) fn index_count(&self, param: u32) -> u64
         ensures { result ≡ index_count (plain self.now) param }
@@ -137,45 +166,12 @@ impl Parts {
         }
     }
 
-    /// The type of a param.
-    pub(crate) fn param_type(&self, param: u32) -> Ty
-        requires { param < length self.now.params }
-        ensures { result ≡ slice_index_or (scope_of (plain self.now)).params param int32 }
-    {
-        self.params.as_slice()[param as usize].ty
-    }
-
-    // Where a param's values begin, among the values of all params.
-    #[tactic(auto, using(crate::proofs::Starts::starts_behind))]
-    fn start_of(&self, param: u32) -> u128
-        requires { param < length self.now.params }
-        ensures { result ≡ min (slice_index_or (scope_of (plain self.now)).starts param 0) (2 ^ 64) }
-    {
-        value_count(first_params(self.params.as_slice(), param as usize))
-    }
-
-    /// The value of a param at a place, among the values of all params.
-    pub(crate) fn param_value(&self, values: &[i128], param: u32, place: u32) -> i128
-        requires there { param < length self.now.params }
-        requires within { slice_index_or (scope_of (plain self.now)).starts param 0 + place < length values.now }
-        ensures { result ≡ slice_index_or values.now (slice_index_or (scope_of (plain self.now)).starts param 0 + place) (pos 0) }
-    {
-        let start = self.start_of(param);
-        let many = values.len();
-        let at = start + place as u128;
-        if at < many as u128 {
-            values[at as usize]
-        } else {
-            unreachable!()
-        }
-    }
-
     /// Whether the tensor is an input.
     pub(crate) fn is_input(&self, tensor: u32) -> bool
         ensures { result ≡ is_input (plain self.now) tensor }
     {
         match self.tensors.get(tensor as usize) {
-            Some(tensor) => uses::is_input(tensor.role),
+            Some(tensor) => tensor.role.is_input(),
             None => false,
         }
     }
@@ -185,21 +181,13 @@ impl Parts {
         ensures { result ≡ is_output (plain self.now) tensor }
     {
         match self.tensors.get(tensor as usize) {
-            Some(tensor) => uses::is_output(tensor.role),
+            Some(tensor) => tensor.role.is_output(),
             None => false,
         }
     }
 
-    /// The type of a tensor.
-    pub(crate) fn tensor_type(&self, tensor: u32) -> Ty
-        requires { tensor < length self.now.tensors }
-        ensures { result ≡ slice_index_or (scope_of (plain self.now)).tensors tensor int32 }
-    {
-        self.tensors.as_slice()[tensor as usize].ty
-    }
-
     /// The formula of a tensor, and None for an input and past the last tensor.
-    pub(crate) fn formula(&self, tensor: u32) -> Option<&Expr>
+    pub fn formula(&self, tensor: u32) -> Option<&Expr>
         ensures { option_map (λ f. formula_of f.now) result ≡ slice_index_or (map (λ t. t.formula) (plain self.now).tensors) tensor None }
     {
         match self.tensors.get(tensor as usize) {

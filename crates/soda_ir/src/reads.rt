@@ -1,6 +1,6 @@
 ghost use Rattle.std.specs.Prelude.{◌≡◌, ◌&&◌, ◌+◌, ◌*◌, ◌^◌, ◌<◌, ◌≤◌, [], ◌∷◌, ◌++◌, ℕ, true, pos, ◌+ℤ◌, ◌*ℤ◌, unsigned_abs, length, IfOk, OnOk};
 ghost use Rattle.std.specs.List.{list_any};
-ghost use Rattle.soda_ir.specs.Arrays.{by_formula, every};
+ghost use Rattle.soda_ir.specs.Formula.{by_formula, every};
 ghost use Rattle.soda_ir.specs.Counts.{IsCountable, border_reads, distinct_count, formula_in, formula_reads, is_output, is_same_read, output_number, reach, tensor_reads};
 ghost use Rattle.soda_ir.specs.Points.{linear, listed};
 ghost use Rattle.soda_ir.specs.Program.{extents_at, plain, preserves};
@@ -9,7 +9,7 @@ ghost use Rattle.soda_ir.specs.Uses.{is_near};
 
 use crate::NoMemory;
 use crate::expr::Expr;
-use crate::program::{Border, Parts};
+use crate::program::Parts;
 use sqlite_items::Items;
 use std::alloc::Global;
 
@@ -67,7 +67,7 @@ fn add(reads: &mut Vec<Read>, read: Read) -> Result<(), NoMemory>
 }
 
 // Adds the reads of a formula, from the left.
-#[tactic(auto, using(crate::proofs::Tree::levels, crate::proofs::Distance::joined))]
+#[tactic(auto, using(crate::proofs::CallerLemmas::levels, crate::proofs::Distance::joined))]
 fn collect(expr: &Expr, extents: &[u64], reads: &mut Vec<Read>) -> Result<(), NoMemory>
     requires near { every (λ t o. is_near o) (formula_of expr.now) ≡ true }
     requires small { reach extents.now ≤ 2 ^ 26 }
@@ -123,17 +123,7 @@ fn add_border(
 fn has_border(parts: &Parts, tensor: u32) -> bool
     ensures { result ≡ (preserves (plain parts.now) && is_output (plain parts.now) tensor) }
 {
-    is_preserved(parts) && parts.is_output(tensor)
-}
-
-/// Whether the border is preserved.
-pub(crate) fn is_preserved(parts: &Parts) -> bool
-    ensures { result ≡ preserves (plain parts.now) }
-{
-    match parts.border {
-        Border::Ignore => false,
-        Border::Preserve => true,
-    }
+    parts.is_preserved() && parts.is_output(tensor)
 }
 
 // Adds the reads of a tensor's formula.

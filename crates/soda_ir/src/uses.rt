@@ -1,5 +1,4 @@
 ghost use Rattle.std.specs.Prelude.{◌≡◌, ◌&&◌};
-ghost use Rattle.soda_ir.specs.Counts.{is_input_role, is_output_role};
 ghost use Rattle.soda_ir.specs.Program.{plain, plain_tensor};
 ghost use Rattle.soda_ir.specs.Tree.{formula_of};
 ghost use Rattle.soda_ir.specs.Uses.{each_use, is_good_cell, is_good_place, is_near};
@@ -7,7 +6,7 @@ ghost use Rattle.soda_ir.specs.Valid.{has_formula_if_no_input, has_good_uses, is
 
 use crate::expr::{Expr, Offset};
 use crate::params::product;
-use crate::program::{Parts, Role, Tensor};
+use crate::program::{Parts, Tensor};
 use crate::written::{most_open, token_count};
 
 /// The greatest magnitude of an offset's component.
@@ -43,7 +42,7 @@ fn is_good_place(parts: &Parts, param: u32, place: u32) -> bool
     }
 }
 
-#[tactic(auto, using(crate::proofs::Tree::levels))]
+#[tactic(auto, using(crate::proofs::CallerLemmas::levels))]
 fn names_what_is_there(parts: &Parts, expr: &Expr) -> bool
     ensures { result ≡ each_use (is_good_cell (plain parts.now)) (is_good_place (plain parts.now)) (formula_of expr.now) }
 {
@@ -91,27 +90,7 @@ pub(crate) fn has_formula_if_no_input(tensor: &Tensor) -> bool
     ensures { result ≡ has_formula_if_no_input (plain_tensor tensor.now) }
 {
     match &tensor.formula {
-        Some(_) => !is_input(tensor.role),
-        None => is_input(tensor.role),
-    }
-}
-
-/// Whether this is the role of an input.
-pub(crate) fn is_input(role: Role) -> bool
-    ensures { result ≡ is_input_role role }
-{
-    match role {
-        Role::Input => true,
-        Role::Local | Role::Output => false,
-    }
-}
-
-/// Whether this is the role of an output.
-pub(crate) fn is_output(role: Role) -> bool
-    ensures { result ≡ is_output_role role }
-{
-    match role {
-        Role::Input | Role::Local => false,
-        Role::Output => true,
+        Some(_) => !tensor.role.is_input(),
+        None => tensor.role.is_input(),
     }
 }

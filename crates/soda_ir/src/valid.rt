@@ -9,7 +9,7 @@ ghost use Rattle.soda_ir.specs.Valid.{cell_size, fills_burst, has_formula_if_no_
 use crate::NoMemory;
 use crate::params::{product, value_count};
 use crate::program::{Param, Parts, Role, Tensor};
-use crate::uses::{has_formula_if_no_input, has_good_uses, is_input, is_output, is_small};
+use crate::uses::{has_formula_if_no_input, has_good_uses, is_small};
 use soda_words::{Ty, cell_bytes};
 use std::alloc::Global;
 
@@ -80,7 +80,7 @@ pub(crate) fn has_inputs_first(tensors: &[Tensor]) -> bool
     match tensors {
         [] => true,
         [tensor, rest @ ..] => {
-            if is_input(tensor.role) {
+            if tensor.role.is_input() {
                 has_inputs_first(rest)
             } else {
                 has_no_input(rest)
@@ -92,7 +92,7 @@ pub(crate) fn has_inputs_first(tensors: &[Tensor]) -> bool
 fn has_no_input(tensors: &[Tensor]) -> bool
     ensures { result ≡ list_all (λ u. not (is_input_role u.role)) tensors.now }
 {
-    tensors.iter().all(|u| !is_input(u.role))
+    tensors.iter().all(|u| !u.role.is_input())
 }
 
 fn cell_size(ty: Ty) -> u64
@@ -117,14 +117,14 @@ fn fills_burst(width: u64, tensor: &Tensor) -> bool
 pub(crate) fn has_input(tensors: &[Tensor]) -> bool
     ensures { result ≡ list_any (λ t. is_input_role t.role) tensors.now }
 {
-    tensors.iter().any(|t| is_input(t.role))
+    tensors.iter().any(|t| t.role.is_input())
 }
 
 /// Whether an output is there.
 pub(crate) fn has_output(tensors: &[Tensor]) -> bool
     ensures { result ≡ list_any (λ t. is_output_role t.role) tensors.now }
 {
-    tensors.iter().any(|t| is_output(t.role))
+    tensors.iter().any(|t| t.role.is_output())
 }
 
 /// Whether whole cells of each input and output fill a burst.
@@ -173,7 +173,7 @@ fn types_in(alloc: Global, tensors: &[Tensor]) -> Result<Vec<Ty>, NoMemory>
 {
     let mut types = Vec::new(alloc);
     for tensor in tensors {
-        push_if(&mut types, is_input(tensor.role), tensor.ty)?;
+        push_if(&mut types, tensor.role.is_input(), tensor.ty)?;
     }
     Ok(types)
 }
@@ -183,7 +183,7 @@ fn types_out(alloc: Global, tensors: &[Tensor]) -> Result<Vec<Ty>, NoMemory>
 {
     let mut types = Vec::new(alloc);
     for tensor in tensors {
-        push_if(&mut types, is_output(tensor.role), tensor.ty)?;
+        push_if(&mut types, tensor.role.is_output(), tensor.ty)?;
     }
     Ok(types)
 }

@@ -42,7 +42,7 @@ pub fn unary_level(op: UnOp) -> u64
     }
 }
 
-#[tactic(auto, using(crate::proofs::Tree::levels))]
+#[tactic(auto, using(crate::proofs::CallerLemmas::levels))]
 fn level_of(expr: &Expr) -> u64
     ensures { result ≡ level_of (formula_of expr.now) }
 {
@@ -82,7 +82,7 @@ fn call_pairs(level: u64) -> u64
 }
 
 // How many tokens a formula has as it is written, without the minus signs of offsets.
-#[tactic(auto, using(crate::proofs::Tree::levels))]
+#[tactic(auto, using(crate::proofs::CallerLemmas::levels))]
 pub(crate) fn token_count(parts: &Parts, expr: &Expr) -> u64
     ensures { result ≡ min (token_count (plain parts.now) (formula_of expr.now)) 10000 }
 {
@@ -110,7 +110,7 @@ pub(crate) fn token_count(parts: &Parts, expr: &Expr) -> u64
 }
 
 // How many brackets are open at once in a formula as it is written.
-#[tactic(auto, using(crate::proofs::Tree::levels))]
+#[tactic(auto, using(crate::proofs::CallerLemmas::levels))]
 pub(crate) fn most_open(parts: &Parts, expr: &Expr) -> u64
     ensures { result ≡ min (most_open (plain parts.now) (formula_of expr.now)) 10000 }
 {

@@ -11,7 +11,7 @@ use Rattle.soda_checks.specs.declared.outline.Outline.{Outline}
 use Rattle.soda_checks.specs.declared.outline.Site.{Site}
 use Rattle.soda_checks.specs.declared.outline.Site.TheVariants.{Size as SiteSize, Left}
 use Rattle.soda_ir.specs.Counts.{can_be_placed, has_place, tensor_is}
-use Rattle.soda_ir.specs.Arrays.{by_formula, every}
+use Rattle.soda_ir.specs.Formula.{by_formula, every}
 use Rattle.soda_ir.specs.Program.{PlainParam, PlainProgram, PlainTensor}
 use Rattle.soda_ir.specs.Valid.{has_good_uses, is_good_param}
 use Rattle.soda_parse.specs.Meaning.{input_of, param_of, tensors_in}

@@ -8,7 +8,7 @@ use Rattle.soda_checks.specs.Outline.{outline_in, outline_of, uses_in}
 use Rattle.soda_checks.specs.declared.outline.Outline.{Outline}
 use Rattle.soda_checks.specs.declared.outline.Site.{Site}
 use Rattle.soda_checks.specs.declared.outline.Site.TheVariants.{Size as SiteSize, Left}
-use Rattle.soda_ir.specs.Arrays.{every}
+use Rattle.soda_ir.specs.Formula.{every}
 use Rattle.soda_ir.specs.Program.{PlainProgram}
 use Rattle.soda_ir.specs.Uses.{formula_is, is_good_cell}
 use Rattle.soda_parse.specs.Limits.{far_from}

@@ -12,7 +12,7 @@ use Rattle.soda_checks.specs.declared.outline.Outline.{Outline}
 use Rattle.soda_checks.specs.declared.outline.Site.{Site}
 use Rattle.soda_checks.specs.declared.outline.Site.TheVariants.{Size as SiteSize, Left, Cell, Value}
 use Rattle.soda_formula.specs.Terms.{Term, literal, cell, value, unary, binary, choice, cast}
-use Rattle.soda_ir.specs.Arrays.{every}
+use Rattle.soda_ir.specs.Formula.{every}
 use Rattle.soda_ir.specs.Formula.{Formula}
 use Rattle.soda_ir.specs.Program.{PlainProgram}
 use Rattle.soda_ir.specs.Uses.{each_use, is_good_cell, is_good_place, is_near}

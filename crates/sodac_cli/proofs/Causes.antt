@@ -1,6 +1,7 @@
 -- That all is well, that something isn't built, and each refusal exclude each other.
 use Rattle.std.proofs.Common.{◌≡◌, ◌<◌, ℕ, List, length, Some, refl, sym, subst, ◌∙◌, arith}
-use Rattle.soda_ir.specs.Program.{PlainProgram, cells_at}
+use Rattle.soda_ir.specs.Program.{PlainProgram}
+use Rattle.soda_eval.specs.Runs.{cells_at}
 use Rattle.soda_parse.specs.Text.{Accepts, Refuses, too_long, no_ascii, no_syntax, not_valid}
 use Rattle.soda_parse.specs.declared.refusal.Refusal.{Refusal}
 use Rattle.soda_parse.specs.declared.refusal.Refusal.TheVariants.{TextTooLong}

@@ -6,8 +6,9 @@ use Rattle.soda_io.specs.Store.{Store, Creates, KeepsBytes, KeepsIds, Opens, con
 use Rattle.soda_io.specs.declared.call.FileCall.{FileCall}
 use Rattle.soda_io.specs.declared.call.FileCall.TheVariants.{Open, Create}
 use Rattle.whole_files.specs.Writing.{WritesWhole, last_write}
-use Rattle.soda_ir.specs.Program.{PlainProgram, cells_at}
-use Rattle.soda_ir.specs.Sums.{IsSumProgram}
+use Rattle.soda_ir.specs.Program.{PlainProgram}
+use Rattle.soda_eval.specs.Runs.{cells_at}
+use Rattle.soda_eval.specs.Sums.{IsSumProgram}
 use Rattle.job_parts.specs.Cells.{AreCells}
 use Rattle.sodac_cli.specs.Job.{PlainJob, plain_job}
 use Rattle.sodac_cli.specs.Journal.{creates}

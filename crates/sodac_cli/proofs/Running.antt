@@ -6,8 +6,9 @@ use Rattle.std.proofs.lemmas.Int.{ints}
 use Rattle.std.proofs.lemmas.List.Elements.{All-head, All-tail}
 use Rattle.int_types.specs.Ranges.{InRange}
 use Rattle.soda_ir.specs.Points.{listed}
-use Rattle.soda_ir.specs.Program.{HasArrays, HasValues, IsArray, PlainProgram, cells_at, defined_arrays, input_types, place_types}
-use Rattle.soda_ir.specs.Sums.{IsSumProgram, sum_program, uint8}
+use Rattle.soda_eval.specs.Runs.{HasArrays, HasValues, IsArray, cells_at, defined_arrays, place_types}
+use Rattle.soda_ir.specs.Program.{PlainProgram, input_types}
+use Rattle.soda_eval.specs.Sums.{IsSumProgram, sum_program, uint8}
 use Rattle.job_parts.specs.Cells.{AreCells, array_text, parting, run_of, text_from}
 use Rattle.sodac_cli.specs.Meaning.{text_of}
 

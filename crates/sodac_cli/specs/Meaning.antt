@@ -4,8 +4,9 @@ use Rattle.soda_io.specs.Store.{Store, KeepsBytes}
 use Rattle.soda_io.specs.declared.call.FileCall.{FileCall}
 use Rattle.soda_io.specs.declared.role.FileRole.TheVariants.{Program, Modules, Params, Stall, Input, Output}
 use Rattle.soda_ir.specs.declared.limit.LimitKind.TheVariants.{Cells, Total}
-use Rattle.soda_ir.specs.Program.{PlainProgram, cells_at, defined_arrays}
-use Rattle.soda_ir.specs.Sums.{IsSumProgram}
+use Rattle.soda_ir.specs.Program.{PlainProgram}
+use Rattle.soda_eval.specs.Runs.{cells_at, defined_arrays}
+use Rattle.soda_eval.specs.Sums.{IsSumProgram}
 use Rattle.job_parts.specs.Cells.{AreCells, array_text, run_of}
 use Rattle.soda_parse.specs.Text.{Accepts, Refuses}
 use Rattle.soda_parse.specs.declared.refusal.Refusal.{Refusal}

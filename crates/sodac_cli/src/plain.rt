@@ -1,6 +1,6 @@
 ghost use Rattle.std.specs.Prelude.{◌≢◌, MatchOption};
 ghost use Rattle.soda_ir.specs.Program.{plain};
-ghost use Rattle.soda_ir.specs.Sums.{IsSumProgram};
+ghost use Rattle.soda_eval.specs.Sums.{IsSumProgram};
 ghost use Rattle.sodac_cli.specs.Answers.{Allows, Faults};
 ghost use Rattle.sodac_cli.specs.Job.{job_of, plain_job};
 ghost use Rattle.sodac_cli.specs.Meaning.{KeepsLimits, PassesLimit};
@@ -11,7 +11,8 @@ use crate::program::read_program;
 use crate::run::run;
 use job_parts::PlainWords;
 use soda_io::Files;
-use soda_ir::{Program, is_sum_program};
+use soda_eval::is_sum_program;
+use soda_ir::Program;
 use soda_parse::{LimitKind, Refusal};
 use std::alloc::Global;
 

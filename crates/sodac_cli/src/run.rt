@@ -1,6 +1,7 @@
 ghost use Rattle.std.specs.Prelude.{◌≡◌, ◌≢◌, ◌≤◌, List, ℤ, IfOk, IfSome, IfNone};
-ghost use Rattle.soda_ir.specs.Program.{IsArray, cells_at, plain};
-ghost use Rattle.soda_ir.specs.Sums.{IsSumProgram, uint8};
+ghost use Rattle.soda_eval.specs.Runs.{IsArray, cells_at};
+ghost use Rattle.soda_ir.specs.Program.{plain};
+ghost use Rattle.soda_eval.specs.Sums.{IsSumProgram, uint8};
 ghost use Rattle.job_parts.specs.Cells.{AreCells};
 ghost use Rattle.sodac_cli.specs.Answers.{Faults, IsBehindProgram};
 ghost use Rattle.sodac_cli.specs.Job.{array_files, job_of, plain_job};
@@ -10,7 +11,8 @@ ghost use Rattle.sodac_cli.specs.Meaning.{HasProgram, IsTextOver, Leaves, Tells,
 use crate::Status;
 use job_parts::{PlainWords, array_text, read_cells};
 use soda_io::{FileRole, Files, IoErr};
-use soda_ir::{NoMemory, Program, plain_run};
+use soda_eval::plain_run;
+use soda_ir::{NoMemory, Program};
 use sqlite_items::Items;
 use std::alloc::Global;
 use whole_files::{ReadFail, read_whole, write_whole};

@@ -1,5 +1,5 @@
 use Rattle.std.proofs.Common.{◌≡◌, true, false, slice_index_or}
-use Rattle.soda_ir.specs.Arrays.{by_formula, every}
+use Rattle.soda_ir.specs.Formula.{by_formula, every}
 use Rattle.soda_ir.specs.Counts.{tensor_is}
 use Rattle.soda_ir.specs.Points.{listed}
 use Rattle.soda_ir.specs.Program.{plain}

@@ -1,5 +1,5 @@
 use Rattle.std.proofs.Common.{[], ◌++◌, ◌∙◌, ap}
-use Rattle.soda_ir.specs.Arrays.{by_formula}
+use Rattle.soda_ir.specs.Formula.{by_formula}
 use Rattle.soda_ir.specs.Counts.{border_reads, formula_in, formula_reads}
 use Rattle.soda_ir.specs.Program.{extents_at, plain}
 use Rattle.soda_ir.proofs.reads.reads_of.Goals as goal

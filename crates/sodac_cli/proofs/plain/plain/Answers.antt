@@ -1,6 +1,6 @@
 use Rattle.std.proofs.Common.{refl, subst, sym}
 use Rattle.soda_ir.specs.Program.{plain}
-use Rattle.soda_ir.specs.Sums.{IsSumProgram}
+use Rattle.soda_eval.specs.Sums.{IsSumProgram}
 use Rattle.sodac_cli.specs.Job.{job_of, plain_job}
 use Rattle.sodac_cli.specs.Meaning.{HasProgram, Holding, IsBegun, Tells}
 use Rattle.sodac_cli.proofs.Behind.{allows_behind, allows_of_program, asks_behind, same_holding}

@@ -1,6 +1,7 @@
 use Rattle.std.proofs.Common.{◌≡◌, ◌<◌, ◌*◌, List, ℕ, length, Some, Err, ap, sym, subst, ◌∙◌}
 use Rattle.whole_files.specs.declared.reading.ReadFail.{ReadFail}
-use Rattle.soda_ir.specs.Program.{cells_at, plain}
+use Rattle.soda_eval.specs.Runs.{cells_at}
+use Rattle.soda_ir.specs.Program.{plain}
 use Rattle.sodac_cli.specs.Job.{job_of}
 use Rattle.sodac_cli.proofs.Begun.{create_failed_asks, create_memory_asks, memory_asks, open_failed_asks, open_memory_asks, read_failed_asks, read_log, read_memory_asks, too_long_asks, unbuilt_asks, write_failed_asks, write_memory_asks, wrote_asks}
 use Rattle.sodac_cli.proofs.Contents.{created_leaves, fine, input_left, not_cells, opened_there, too_many, wrote_all, wrote_leaves}

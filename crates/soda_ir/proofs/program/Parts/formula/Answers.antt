@@ -1,6 +1,6 @@
 use Rattle.std.proofs.Common.{ap, sym, ◌∙◌, option_map}
 use Rattle.soda_ir.specs.Tree.{formula_of}
-use Rattle.soda_ir.proofs.Sum.{formula_got, no_formula_got}
+use Rattle.soda_ir.proofs.Formulas.{formula_got, no_formula_got}
 use Rattle.soda_ir.proofs.program.Parts.formula.Goals as goal
 
 pub returns-in-Some-formula : goal.returns-in-Some-formula

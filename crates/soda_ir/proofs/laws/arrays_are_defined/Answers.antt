@@ -1,5 +1,0 @@
-use Rattle.soda_ir.proofs.Depth.{depth_means}
-use Rattle.soda_ir.proofs.laws.arrays_are_defined.Goals as goal
-
-pub returns : goal.returns
-returns c = λ s g params rank k placed h. depth_means s g params rank placed k h

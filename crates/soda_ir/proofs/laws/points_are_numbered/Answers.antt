@@ -1,5 +1,0 @@
-use Rattle.soda_ir.proofs.Numbers.{point_there, number_back, linear_moved}
-use Rattle.soda_ir.proofs.laws.points_are_numbered.Goals as goal
-
-pub returns : goal.returns
-returns c = record { there = point_there; back = number_back; moves = linear_moved }
