@@ -5,12 +5,13 @@ use std::test::Fail;
 
 fn outline(alloc: Global, text: &str) -> Result<Outline, Fail> {
     let statements = read_statements(alloc, text.as_bytes())?;
-    Ok(make_outline(alloc, &statements)?)
+    let outline = make_outline(alloc, &statements);
+    drop(statements);
+    Ok(outline?)
 }
 
 // Every condition that fails, with its line, whether or not another one fails before it.
-fn told(alloc: Global, outline: &Outline) -> Result<String, NoMemory> {
-    let names = make_names(alloc, outline)?;
+fn told_of(alloc: Global, outline: &Outline, names: &Names) -> Result<String, NoMemory> {
     let mut text = String::new(alloc);
     if let Some(need) = missing(outline) {
         text.push_str(format!(in alloc; "missing {need:?}; ")?.as_str())?;
@@ -19,17 +20,32 @@ fn told(alloc: Global, outline: &Outline) -> Result<String, NoMemory> {
         ("twice", twice(outline)),
         ("float type", float_type(outline)),
         ("bad type", bad_width(outline)),
-        ("name taken", name_twice(outline, &names)),
-        ("unknown name", unknown_name(outline, &names)),
-        ("wrong number of offsets", wrong_dims(outline, &names)),
+        ("name taken", name_twice(outline, names)),
+        ("unknown name", unknown_name(outline, names)),
+        ("wrong number of offsets", wrong_dims(outline, names)),
         ("tile", wrong_tile(outline)),
-        ("param use", param_use(outline, &names)),
+        ("param use", param_use(outline, names)),
     ] {
         if let Some(line) = found {
             text.push_str(format!(in alloc; "{condition} {line}; ")?.as_str())?;
         }
     }
     Ok(text)
+}
+
+fn told(alloc: Global, outline: &Outline) -> Result<String, NoMemory> {
+    let names = make_names(alloc, outline)?;
+    let told = told_of(alloc, outline, &names);
+    drop(names);
+    told
+}
+
+// The same of a text.
+fn answer(alloc: Global, text: &str) -> Result<String, Fail> {
+    let outline = outline(alloc, text)?;
+    let told = told(alloc, &outline);
+    drop(outline);
+    Ok(told?)
 }
 
 #[test]
@@ -63,7 +79,7 @@ fn conditions_of_texts(rt: HostRuntime) -> Result<(), Fail> {
             "wrong number of offsets 4; tile 4; param use 2; ",
         ),
     ] {
-        let found = told(alloc, &outline(alloc, text)?)?;
+        let found = answer(alloc, text)?;
         assert_eq!(rt; found.as_str(), want, "{text}");
     }
     Ok(())
@@ -71,29 +87,47 @@ fn conditions_of_texts(rt: HostRuntime) -> Result<(), Fail> {
 
 // What each declared name is: like how many declared ones, a tensor's, a param's, and the param's sizes
 // above these indexes.
-fn names_told(alloc: Global, outline: &Outline, indexes: &[u64]) -> Result<String, NoMemory> {
-    let names = make_names(alloc, outline)?;
+fn declared_told(
+    alloc: Global,
+    outline: &Outline,
+    names: &Names,
+    indexes: &[u64],
+) -> Result<String, NoMemory> {
     let mut text = String::new(alloc);
     let declared = outline.declared.as_slice();
     for word in declared {
         let alike = declared.iter().filter(|w| is_same(w, word)).count();
-        let below = match param_of(outline, &names, word) {
+        let below = match param_of(outline, names, word) {
             Some(param) => Some(are_below(indexes, param.sizes.as_slice())),
             None => None,
         };
-        let tensor = is_tensor(outline, &names, word);
+        let tensor = is_tensor(outline, names, word);
         text.push_str(format!(in alloc; "{alike} {tensor} {below:?}; ")?.as_str())?;
     }
     Ok(text)
 }
 
+// The same of a text, and how many items its first tile has.
+fn names_told(alloc: Global, text: &str, indexes: &[u64]) -> Result<(String, Option<usize>), Fail> {
+    let outline = outline(alloc, text)?;
+    let told = match make_names(alloc, &outline) {
+        Ok(names) => {
+            let told = declared_told(alloc, &outline, &names, indexes);
+            drop(names);
+            told
+        }
+        Err(error) => Err(error),
+    };
+    let items = first_tile(outline.inputs.as_slice()).map(|tile| tile.len());
+    drop(outline);
+    Ok((told?, items))
+}
+
 #[test]
 fn names_of_an_outline(rt: HostRuntime) -> Result<(), Fail> {
     let alloc = rt.alloc();
-    let outline = outline(
-        alloc,
-        "param int8: c[2][3] input int8: a input int8: b(4, *)\nlocal int8: l(0, 0) = 1\nparam int8: d[3] output int8: a(0, 0) = l(0, 0)",
-    )?;
+    let text =
+        "param int8: c[2][3] input int8: a input int8: b(4, *)\nlocal int8: l(0, 0) = 1\nparam int8: d[3] output int8: a(0, 0) = l(0, 0)";
     for (indexes, want) in [
         (
             [1, 2].as_slice(),
@@ -108,11 +142,10 @@ fn names_of_an_outline(rt: HostRuntime) -> Result<(), Fail> {
             "1 false Some(false); 2 true None; 1 true None; 1 true None; 1 false Some(false); 2 true None; ",
         ),
     ] {
-        let found = names_told(alloc, &outline, indexes)?;
+        let (found, items) = names_told(alloc, text, indexes)?;
         assert_eq!(rt; found.as_str(), want);
+        assert_eq!(rt; items, Some(2));
     }
-    let tile = first_tile(outline.inputs.as_slice()).ok_or("no tile")?;
-    assert_eq!(rt; tile.len(), 2);
     Ok(())
 }
 

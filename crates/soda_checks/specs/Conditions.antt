@@ -54,12 +54,16 @@ has_output ds = list_any (λ d. d.is_output) ds
 -- Missing: the first need that no statement fills
 abbrev pub missing : Outline → Option Need
 missing o =
-    or_else (need_unless (list_any (is_kind Kernel) o.settings) NeedKernel) (or_else (need_unless (list_any (is_kind BurstWidth) o.settings) NeedWidth) (or_else (need_unless (list_any (is_kind UnrollFactor) o.settings) NeedFactor) (or_else (need_unless (not (length o.inputs == 0)) NeedInput) (need_unless (has_output o.defined) NeedOutput))))
+    or_else (need_unless (list_any (is_kind Kernel) o.settings) NeedKernel)
+    (or_else (need_unless (list_any (is_kind BurstWidth) o.settings) NeedWidth)
+    (or_else (need_unless (list_any (is_kind UnrollFactor) o.settings) NeedFactor)
+    (or_else (need_unless (not (length o.inputs == 0)) NeedInput) (need_unless (has_output o.defined) NeedOutput))))
 
 -- the line of the first setting that repeats one of its kind, among these or before it
 abbrev pub twice_behind : List Setting → List Setting → Option ℕ
 twice_behind earlier [] = None
-twice_behind earlier (s ∷ ss) = if list_any (is_kind s.kind) earlier then Some s.line else twice_behind (earlier ++ s ∷ []) ss
+twice_behind earlier (s ∷ ss) =
+    if list_any (is_kind s.kind) earlier then Some s.line else twice_behind (earlier ++ s ∷ []) ss
 
 -- Twice: the line of the first setting that repeats one
 abbrev pub twice : Outline → Option ℕ
@@ -149,10 +153,17 @@ is_same_tile (d ∷ ds) (e ∷ es) = is_same_extent d e && is_same_tile ds es
 abbrev pub has_wrong_tile : List Extent → InputLine → Bool
 has_wrong_tile first i = elim i.tile [ None ↦ false | Some tile ↦ not (is_tile tile && is_same_tile tile first) ]
 
+-- the line of the name of an input, if there is one
+abbrev pub named_on : Option InputLine → Option ℕ
+named_on input = option_map (λ i. i.name.line) input
+
 -- Tile: the line of the name of the first input whose tile is wrong, or of the first input where none has a tile
 abbrev pub wrong_tile : Outline → Option ℕ
 wrong_tile o =
-    elim (first_tile o.inputs) [ None ↦ option_map (λ i. i.name.line) (slice_get o.inputs 0) | Some tile ↦ option_map (λ i. i.name.line) (find (has_wrong_tile tile) o.inputs) ]
+    elim (first_tile o.inputs) [
+      | None ↦ named_on (slice_get o.inputs 0)
+      | Some tile ↦ named_on (find (has_wrong_tile tile) o.inputs)
+    ]
 
 -- as many indexes as sizes, each below its size
 abbrev pub are_below : List ℕ → List Size → Bool

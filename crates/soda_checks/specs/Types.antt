@@ -12,7 +12,8 @@ is_float w = list_any (λ front. is_some (behind front w)) (codes "float" ∷ co
 -- digits that write a number from the least to 64, with no leading zero
 abbrev pub width_of : ℕ → List ℕ → Option ℕ
 width_of least ds =
-    if (is_number ds && nat_le least (value_behind 0 ds) && nat_le (value_behind 0 ds) 64) then Some (value_behind 0 ds) else None
+    if (is_number ds && nat_le least (value_behind 0 ds) && nat_le (value_behind 0 ds) 64) then Some (value_behind 0 ds)
+    else None
 
 -- the type of this sign whose word has these digits behind its front
 abbrev pub type_behind : Bool → ℕ → Option (List ℕ) → Option IntType

@@ -5,7 +5,7 @@ ghost use Rattle.soda_formula.specs.Tree.{term_of};
 ghost use Rattle.soda_formula.specs.Statements.{plain_line, plain_statement};
 
 use crate::{Defined, NoMemory, Outline, Setting, SettingKind, Site};
-use soda_formula::{Written, Extent, FormulaLine, InputLine, ParamLine, Size, Statement};
+use soda_formula::{Extent, FormulaLine, InputLine, ParamLine, Size, Statement, Written};
 use soda_words::Word;
 use sqlite_items::Items;
 use std::alloc::Global;
@@ -217,13 +217,30 @@ fn empty(alloc: Global) -> Outline
     }
 }
 
+// Adds statements.
+fn add_statements(
+    alloc: Global,
+    outline: &mut Outline,
+    statements: &[Statement],
+) -> Result<(), NoMemory>
+    ensures { OnOk result (outline.new ≡ joined outline.old (outline_of (map plain_statement statements.now))) }
+{
+    for statement in statements {
+        add_statement(alloc, outline, statement)?;
+    }
+    Ok(())
+}
+
 /// What the conditions look at of statements.
 pub fn make_outline(alloc: Global, statements: &[Statement]) -> Result<Outline, NoMemory>
     ensures { IfOk result (λ outline. outline ≡ outline_of (map plain_statement statements.now)) }
 {
     let mut outline = empty(alloc);
-    for statement in statements {
-        add_statement(alloc, &mut outline, statement)?;
+    match add_statements(alloc, &mut outline, statements) {
+        Ok(()) => Ok(outline),
+        Err(error) => {
+            drop(outline);
+            Err(error)
+        }
     }
-    Ok(outline)
 }

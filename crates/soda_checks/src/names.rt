@@ -1,4 +1,4 @@
-ghost use Rattle.std.specs.Prelude.{◌≡◌, map, take, IfOk};
+ghost use Rattle.std.specs.Prelude.{◌≡◌, [], ◌++◌, map, take, IfOk, OnOk};
 ghost use Rattle.std.specs.List.{list_any};
 ghost use Rattle.soda_checks.specs.Names.{names_of};
 ghost use Rattle.soda_checks.specs.Outline.{is_one_of};
@@ -22,60 +22,86 @@ pub struct Names<'a> {
     pub params: NameTable<'a>,
 }
 
-// The texts of words.
-fn texts<'a>(alloc: Global, words: &'a [Word]) -> Result<NameTable<'a>, NoMemory>
-    ensures { IfOk result (λ names. names ≡ map (λ w. w.text) words.now) }
+// No names.
+fn no_names<'a>(alloc: Global) -> Names<'a>
+    ensures declared { result.declared ≡ [] }
+    ensures inputs { result.inputs ≡ [] }
+    ensures defined { result.defined ≡ [] }
+    ensures params { result.params ≡ [] }
 {
-    let mut names = NameTable::new(alloc);
+    Names {
+        declared: NameTable::new(alloc),
+        inputs: NameTable::new(alloc),
+        defined: NameTable::new(alloc),
+        params: NameTable::new(alloc),
+    }
+}
+
+// Adds the texts of words.
+fn add_words<'a>(names: &mut NameTable<'a>, words: &'a [Word]) -> Result<(), NoMemory>
+    ensures { OnOk result (names.new ≡ names.old ++ map (λ w. w.text) words.now) }
+{
     for word in words {
         names.add(word.text.as_slice())?;
     }
-    Ok(names)
+    Ok(())
 }
 
-// The names of inputs.
-fn input_names<'a>(alloc: Global, inputs: &'a [InputLine]) -> Result<NameTable<'a>, NoMemory>
-    ensures { IfOk result (λ names. names ≡ map (λ i. i.name.text) inputs.now) }
+// Adds the names of inputs.
+fn add_inputs<'a>(names: &mut NameTable<'a>, inputs: &'a [InputLine]) -> Result<(), NoMemory>
+    ensures { OnOk result (names.new ≡ names.old ++ map (λ i. i.name.text) inputs.now) }
 {
-    let mut names = NameTable::new(alloc);
     for input in inputs {
         names.add(input.name.text.as_slice())?;
     }
-    Ok(names)
+    Ok(())
 }
 
-// The names of locals and outputs.
-fn defined_names<'a>(alloc: Global, defined: &'a [Defined]) -> Result<NameTable<'a>, NoMemory>
-    ensures { IfOk result (λ names. names ≡ map (λ d. d.name.text) defined.now) }
+// Adds the names of locals and outputs.
+fn add_defined<'a>(names: &mut NameTable<'a>, defined: &'a [Defined]) -> Result<(), NoMemory>
+    ensures { OnOk result (names.new ≡ names.old ++ map (λ d. d.name.text) defined.now) }
 {
-    let mut names = NameTable::new(alloc);
     for line in defined {
         names.add(line.name.text.as_slice())?;
     }
-    Ok(names)
+    Ok(())
 }
 
-// The names of params.
-fn param_names<'a>(alloc: Global, params: &'a [ParamLine]) -> Result<NameTable<'a>, NoMemory>
-    ensures { IfOk result (λ names. names ≡ map (λ q. q.name.text) params.now) }
+// Adds the names of params.
+fn add_params<'a>(names: &mut NameTable<'a>, params: &'a [ParamLine]) -> Result<(), NoMemory>
+    ensures { OnOk result (names.new ≡ names.old ++ map (λ q. q.name.text) params.now) }
 {
-    let mut names = NameTable::new(alloc);
     for param in params {
         names.add(param.name.text.as_slice())?;
     }
-    Ok(names)
+    Ok(())
+}
+
+// Adds the names in an outline.
+fn add_names<'a>(names: &mut Names<'a>, outline: &'a Outline) -> Result<(), NoMemory>
+    ensures declared { OnOk result (names.new.declared ≡ names.old.declared ++ (names_of outline.now).declared) }
+    ensures inputs { OnOk result (names.new.inputs ≡ names.old.inputs ++ (names_of outline.now).inputs) }
+    ensures defined { OnOk result (names.new.defined ≡ names.old.defined ++ (names_of outline.now).defined) }
+    ensures params { OnOk result (names.new.params ≡ names.old.params ++ (names_of outline.now).params) }
+{
+    add_words(&mut names.declared, outline.declared.as_slice())?;
+    add_inputs(&mut names.inputs, outline.inputs.as_slice())?;
+    add_defined(&mut names.defined, outline.defined.as_slice())?;
+    add_params(&mut names.params, outline.params.as_slice())
 }
 
 /// The names in an outline.
 pub fn make_names<'a>(alloc: Global, outline: &'a Outline) -> Result<Names<'a>, NoMemory>
     ensures { IfOk result (λ names. names ≡ names_of outline.now) }
 {
-    Ok(Names {
-        declared: texts(alloc, outline.declared.as_slice())?,
-        inputs: input_names(alloc, outline.inputs.as_slice())?,
-        defined: defined_names(alloc, outline.defined.as_slice())?,
-        params: param_names(alloc, outline.params.as_slice())?,
-    })
+    let mut names = no_names(alloc);
+    match add_names(&mut names, outline) {
+        Ok(()) => Ok(names),
+        Err(error) => {
+            drop(names);
+            Err(error)
+        }
+    }
 }
 
 // Whether the word is one of these names.

@@ -7,7 +7,7 @@ use soda_words::Word;
 use sqlite_items::Items;
 
 /// Which setting of a program a statement is.
-#[derive(Clone, Copy, Debug, PartialEq, Eq)]
+#[derive(Clone, Copy)]
 pub enum SettingKind {
     /// The name of the program.
     Kernel,
@@ -24,7 +24,7 @@ pub enum SettingKind {
 }
 
 /// A setting, and the line of its first word.
-#[derive(Clone, Copy, Debug, PartialEq, Eq)]
+#[derive(Clone, Copy)]
 pub struct Setting {
     /// The number of the line, from 1.
     pub line: u64,

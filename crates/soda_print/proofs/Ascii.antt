@@ -4,6 +4,7 @@ use Rattle.std.specs.Fmt.{decimal, signed_decimal}
 use Rattle.std.specs.List.{list_all}
 use Rattle.std.proofs.lemmas.Bool.Decides.{nat_tests}
 use Rattle.std.proofs.lemmas.Fmt.{digits_decimal}
+use Rattle.std.proofs.lemmas.Bool.{and_from, and_parts}
 use Rattle.soda_words.specs.declared.operators.UnOp.{UnOp}
 use Rattle.soda_words.specs.declared.operators.UnOp.TheVariants.{Plus, Minus, Flip, Not, Abs}
 use Rattle.soda_words.specs.declared.operators.BinOp.{BinOp}
@@ -16,7 +17,7 @@ use Rattle.soda_words.specs.Tokens.{in_comment_behind, line_behind, not_ascii, n
 use Rattle.soda_print.specs.Canonical.{behind_commas, binary_text, binary_word, border_word, canonical, canonical_lines, ended, formula_text, headed, in_pairs, indexes, indexes_text, left_text, listed, param_line, parted, role_word, setting_lines, tensor_line, tensor_name, tile_text, type_text, unary_text, unary_word, value_text}
 use Rattle.soda_print.proofs.Read.{AreParams, AreSettings, AreTensors, IsBody, IsReadBack, border_named, role_named}
 use Rattle.soda_words.specs.IntType.{IntType}
-use Rattle.soda_print.proofs.Tokens.{are_word_bytes, both, digits_words, first, own, second}
+use Rattle.soda_print.proofs.Tokens.{are_word_bytes, digits_words, own}
 use Rattle.soda_print.proofs.Tokenized.{AreSmall, AreWords, IsValueThere, IsWritable, value_is}
 
 abbrev pub are_ascii : List ℕ → Bool
@@ -29,14 +30,14 @@ not_high b h = grind (arith, nat_tests)
 pub ascii_none : (bs : List ℕ) (c : Bool) (line : ℕ) → are_ascii bs ≡ true → not_ascii_from c line bs ≡ None
 ascii_none [] c line h = refl
 ascii_none (b ∷ bs) c line h =
-    let low : nat_le 128 b ≡ false = not_high b (first (nat_lt b 128) (are_ascii bs) h) in
+    let low : nat_le 128 b ≡ false = not_high b ((and_parts (nat_lt b 128) (are_ascii bs) h).0) in
     ap (λ t. if (t && not c) then Some line else not_ascii_from (in_comment_behind c b) (line_behind line b) bs) low
-    ∙ ascii_none bs (in_comment_behind c b) (line_behind line b) (second (nat_lt b 128) (are_ascii bs) h)
+    ∙ ascii_none bs (in_comment_behind c b) (line_behind line b) ((and_parts (nat_lt b 128) (are_ascii bs) h).1)
 
 ascii_append : (v w : List ℕ) → are_ascii v ≡ true → are_ascii w ≡ true → are_ascii (v ++ w) ≡ true
 ascii_append [] w h k = k
 ascii_append (b ∷ v) w h k =
-    both (nat_lt b 128) (are_ascii (v ++ w)) (first (nat_lt b 128) (are_ascii v) h) (ascii_append v w (second (nat_lt b 128) (are_ascii v) h) k)
+    and_from (nat_lt b 128) (are_ascii (v ++ w)) ((and_parts (nat_lt b 128) (are_ascii v) h).0) (ascii_append v w ((and_parts (nat_lt b 128) (are_ascii v) h).1) k)
 
 or_cases : (s t : Bool) → (s || t) ≡ true → (s ≡ true) ⊎ (t ≡ true)
 or_cases true t h = inl refl
@@ -50,8 +51,8 @@ just b h = grind (arith, nat_tests)
 
 letter_low : (b : ℕ) → is_letter b ≡ true → nat_lt b 128 ≡ true
 letter_low b h = elim (or_cases (nat_le 65 b && nat_le b 90) (nat_le 97 b && nat_le b 122) h) [
-  | inl p ↦ up_to 90 b (second (nat_le 65 b) (nat_le b 90) p) (lit< tt)
-  | inr q ↦ up_to 122 b (second (nat_le 97 b) (nat_le b 122) q) (lit< tt)
+  | inl p ↦ up_to 90 b ((and_parts (nat_le 65 b) (nat_le b 90) p).1) (lit< tt)
+  | inr q ↦ up_to 122 b ((and_parts (nat_le 97 b) (nat_le b 122) q).1) (lit< tt)
 ]
 
 begin_low : (b : ℕ) → begins_name b ≡ true → nat_lt b 128 ≡ true
@@ -59,18 +60,18 @@ begin_low b h = elim (or_cases (is_letter b) (b == 95) h) [ inl p ↦ letter_low
 
 word_low : (b : ℕ) → is_word_byte b ≡ true → nat_lt b 128 ≡ true
 word_low b h =
-    elim (or_cases (begins_name b) (is_digit b) h) [ inl p ↦ begin_low b p | inr q ↦ up_to 57 b (second (nat_le 48 b) (nat_le b 57) q) (lit< tt) ]
+    elim (or_cases (begins_name b) (is_digit b) h) [ inl p ↦ begin_low b p | inr q ↦ up_to 57 b ((and_parts (nat_le 48 b) (nat_le b 57) q).1) (lit< tt) ]
 
 words_ascii : (w : List ℕ) → are_word_bytes w ≡ true → are_ascii w ≡ true
 words_ascii [] h = refl
 words_ascii (b ∷ w) h =
-    both (nat_lt b 128) (are_ascii w) (word_low b (first (is_word_byte b) (are_word_bytes w) h)) (words_ascii w (second (is_word_byte b) (are_word_bytes w) h))
+    and_from (nat_lt b 128) (are_ascii w) (word_low b ((and_parts (is_word_byte b) (are_word_bytes w) h).0)) (words_ascii w ((and_parts (is_word_byte b) (are_word_bytes w) h).1))
 
 pub name_ascii : (w : List ℕ) → is_name w ≡ true → are_ascii w ≡ true
 name_ascii [] h = cc
 name_ascii (b ∷ w) h =
-    let lead : (begins_name b && are_word_bytes w) ≡ true = first (begins_name b && are_word_bytes w) (nat_lt (length w) 64) h in
-    both (nat_lt b 128) (are_ascii w) (begin_low b (first (begins_name b) (are_word_bytes w) lead)) (words_ascii w (second (begins_name b) (are_word_bytes w) lead))
+    let lead : (begins_name b && are_word_bytes w) ≡ true = (and_parts (begins_name b && are_word_bytes w) (nat_lt (length w) 64) h).0 in
+    and_from (nat_lt b 128) (are_ascii w) (begin_low b ((and_parts (begins_name b) (are_word_bytes w) lead).0)) (words_ascii w ((and_parts (begins_name b) (are_word_bytes w) lead).1))
 
 number_ascii : (n : ℕ) → n < 2 ^ 64 → are_ascii (decimal n) ≡ true
 number_ascii n h = words_ascii (decimal n) (digits_words (decimal n) (digits_decimal own n h))

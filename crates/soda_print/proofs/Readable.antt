@@ -1,12 +1,13 @@
 -- A valid program, whose numbers fit their types, can be read back.
-use Rattle.std.proofs.Common.{◌≡◌, ℕ, zero, suc, ◌+◌, ◌*◌, ◌/◌, ◌%◌, ◌^◌, ◌<◌, ◌≤◌, ◌==◌, Bool, true, false, not, ◌&&◌, nat_le, nat_lt, List, [], ◌∷◌, ◌++◌, length, Option, Some, None, slice_get, ℤ, unsigned_abs, refl, sym, ap, ◌∙◌, arith, codes, if◌then◌else◌}
+use Rattle.std.proofs.Common.{◌≡◌, ℕ, zero, suc, ◌+◌, ◌*◌, ◌/◌, ◌%◌, ◌^◌, ◌<◌, ◌≤◌, ◌==◌, Bool, true, false, not, ◌&&◌, nat_le, nat_lt, List, [], ◌∷◌, ◌++◌, length, Option, Some, None, slice_get, ℤ, unsigned_abs, refl, sym, ap, ◌∙◌, arith, codes, if◌then◌else◌, leb-true, ltb-true, lt-ltb}
 use Rattle.std.specs.Fmt.{decimal}
 use Rattle.std.specs.List.{list_all, list_any}
 use Rattle.std.proofs.lemmas.Bool.Decides.{nat_tests}
 use Rattle.std.proofs.lemmas.Fmt.{digits_decimal, length-decimal-le}
 use Rattle.std.proofs.lemmas.List.Sums.{sum_by-cons}
 use Rattle.std.proofs.lemmas.Nat.{mul-le}
-use borrow.Author.Tests.{lt-ltb, ltb-true}
+use Rattle.std.proofs.lemmas.Option.{same_Some}
+use Rattle.std.proofs.lemmas.Bool.{and_from, and_parts}
 use Rattle.soda_words.specs.IntType.{IntType, IsType}
 use Rattle.soda_ir.specs.Formula.{Formula, number, read, param, unary, binary, choice, cast}
 use Rattle.soda_ir.specs.Points.{size}
@@ -17,14 +18,14 @@ use Rattle.soda_words.specs.Names.{is_free_name, is_name, is_reserved, is_word}
 use Rattle.soda_words.specs.Tokens.{tokens_of}
 use Rattle.soda_print.specs.Canonical.{canonical, indexes, tensor_name, type_text}
 use Rattle.soda_print.specs.Sized.{AreSizedParams, AreSizedTensors, IsSized, IsSizedProgram}
-use Rattle.soda_print.proofs.Tokens.{are_word_bytes, both, digits_words, first, own, second}
+use Rattle.soda_print.proofs.Tokens.{are_word_bytes, digits_words, own}
 use Rattle.soda_print.proofs.Tokenized.{AreSmall, AreWords, IsValueThere, IsWritable}
 use Rattle.soda_print.proofs.Read.{AreParams, AreSettings, AreTensors, IsBody, IsParam, IsReadBack, IsTensor, canonical_lex, canonical_tokens, placed_lines}
 
 word_named : (s : Bool) (ds : List ℕ) → are_word_bytes ds ≡ true → length ds ≤ 2 → is_name ((if s then codes "int" else codes "uint") ++ ds) ≡ true
-word_named true ds h lt = both (are_word_bytes ds) (nat_lt (length (110 ∷ 116 ∷ ds)) 64) h (lt-ltb (length (110 ∷ 116 ∷ ds)) 64 (omega arith))
+word_named true ds h lt = and_from (are_word_bytes ds) (nat_lt (length (110 ∷ 116 ∷ ds)) 64) h (lt-ltb (length (110 ∷ 116 ∷ ds)) 64 (omega arith))
 word_named false ds h lt =
-    both (are_word_bytes ds) (nat_lt (length (105 ∷ 110 ∷ 116 ∷ ds)) 64) h (lt-ltb (length (105 ∷ 110 ∷ 116 ∷ ds)) 64 (omega arith))
+    and_from (are_word_bytes ds) (nat_lt (length (105 ∷ 110 ∷ 116 ∷ ds)) 64) h (lt-ltb (length (105 ∷ 110 ∷ 116 ∷ ds)) 64 (omega arith))
 
 type_named : (t : IntType) → IsType t → is_name (type_text t) ≡ true
 unfolding type_text
@@ -42,16 +43,16 @@ some n h = grind (arith, nat_tests)
 pub positive : (ns : List ℕ) → list_all nonzero ns ≡ true → 1 ≤ size ns
 positive [] h = omega arith
 positive (n ∷ ns) h =
-    let one : 1 ≤ n = some n (first (nonzero n) (list_all nonzero ns) h) in
-    let more : 1 ≤ size ns = positive ns (second (nonzero n) (list_all nonzero ns) h) in
+    let one : 1 ≤ n = some n ((and_parts (nonzero n) (list_all nonzero ns) h).0) in
+    let more : 1 ≤ size ns = positive ns ((and_parts (nonzero n) (list_all nonzero ns) h).1) in
     let all : 1 * 1 ≤ n * size ns = mul-le 1 1 n (size ns) one more in
     omega arith
 
 are_words : (ns : List ℕ) → list_all nonzero ns ≡ true → size ns < 2 ^ 64 → AreWords ns
 are_words [] h lt = tt
 are_words (n ∷ ns) h lt =
-    let one : 1 ≤ n = some n (first (nonzero n) (list_all nonzero ns) h) in
-    let rest : list_all nonzero ns ≡ true = second (nonzero n) (list_all nonzero ns) h in
+    let one : 1 ≤ n = some n ((and_parts (nonzero n) (list_all nonzero ns) h).0) in
+    let rest : list_all nonzero ns ≡ true = (and_parts (nonzero n) (list_all nonzero ns) h).1 in
     let more : 1 ≤ size ns = positive ns rest in
     let here : n * 1 ≤ n * size ns = mul-le n 1 n (size ns) (omega arith) more in
     let there : 1 * size ns ≤ n * size ns = mul-le 1 (size ns) n (size ns) one (omega arith) in
@@ -69,57 +70,51 @@ index_words [] i lt = tt
 index_words (n ∷ []) i lt = (lt, tt)
 index_words (n ∷ m ∷ ns) i lt = two_words (m == 0) i m refl lt
 
-true_le : (a b : ℕ) → nat_le a b ≡ true → a ≤ b
-true_le a b h = grind (arith, nat_tests)
-
 bound : (n : ℕ) → nat_le n 32768 ≡ true → n < 2 ^ 64
 bound n h =
-    let small : n ≤ 32768 = true_le n 32768 h in
+    let small : n ≤ 32768 = leb-true n 32768 h in
     omega arith
 
 near_small : (ds : List ℤ) → is_near ds ≡ true → AreSmall ds
 near_small [] h = tt
 near_small (d ∷ ds) h =
-    let one : nat_le (unsigned_abs d) 32768 ≡ true = first (nat_le (unsigned_abs d) 32768) (is_near ds) h in
-    (bound (unsigned_abs d) one, near_small ds (second (nat_le (unsigned_abs d) 32768) (is_near ds) h))
+    let one : nat_le (unsigned_abs d) 32768 ≡ true = (and_parts (nat_le (unsigned_abs d) 32768) (is_near ds) h).0 in
+    (bound (unsigned_abs d) one, near_small ds ((and_parts (nat_le (unsigned_abs d) 32768) (is_near ds) h).1))
 
 -- names
 free_named : (ws : List (List ℕ)) → are_free_names ws ≡ true → list_all is_name ws ≡ true
 free_named [] h = refl
 free_named (w ∷ ws) h =
-    let lead : (is_free_name w && not (list_any (is_word w) ws)) ≡ true = first (is_free_name w && not (list_any (is_word w) ws)) (are_free_names ws) h in
-    let free : is_free_name w ≡ true = first (is_free_name w) (not (list_any (is_word w) ws)) lead in
-    both (is_name w) (list_all is_name ws) (first (is_name w) (not (is_reserved w)) free) (free_named ws (second (is_free_name w && not (list_any (is_word w) ws)) (are_free_names ws) h))
+    let lead : (is_free_name w && not (list_any (is_word w) ws)) ≡ true = (and_parts (is_free_name w && not (list_any (is_word w) ws)) (are_free_names ws) h).0 in
+    let free : is_free_name w ≡ true = (and_parts (is_free_name w) (not (list_any (is_word w) ws)) lead).0 in
+    and_from (is_name w) (list_all is_name ws) ((and_parts (is_name w) (not (is_reserved w)) free).0) (free_named ws ((and_parts (is_free_name w && not (list_any (is_word w) ws)) (are_free_names ws) h).1))
 
 named_params : (qs : List PlainParam) (ts : List PlainTensor) → list_all is_name (names_of qs ts) ≡ true → list_all (λ q. is_name q.name) qs ≡ true
 named_params [] ts h = refl
 named_params (q ∷ qs) ts h =
-    both (is_name q.name) (list_all (λ r. is_name r.name) qs) (first (is_name q.name) (list_all is_name (names_of qs ts)) h) (named_params qs ts (second (is_name q.name) (list_all is_name (names_of qs ts)) h))
+    and_from (is_name q.name) (list_all (λ r. is_name r.name) qs) ((and_parts (is_name q.name) (list_all is_name (names_of qs ts)) h).0) (named_params qs ts ((and_parts (is_name q.name) (list_all is_name (names_of qs ts)) h).1))
 
 named_tensors : (qs : List PlainParam) (ts : List PlainTensor) → list_all is_name (names_of qs ts) ≡ true → list_all (λ t. is_name t.name) ts ≡ true
 named_tensors [] [] h = refl
 named_tensors [] (t ∷ ts) h =
-    both (is_name t.name) (list_all (λ u. is_name u.name) ts) (first (is_name t.name) (list_all is_name (names_of [] ts)) h) (named_tensors [] ts (second (is_name t.name) (list_all is_name (names_of [] ts)) h))
-named_tensors (q ∷ qs) ts h = named_tensors qs ts (second (is_name q.name) (list_all is_name (names_of qs ts)) h)
+    and_from (is_name t.name) (list_all (λ u. is_name u.name) ts) ((and_parts (is_name t.name) (list_all is_name (names_of [] ts)) h).0) (named_tensors [] ts ((and_parts (is_name t.name) (list_all is_name (names_of [] ts)) h).1))
+named_tensors (q ∷ qs) ts h = named_tensors qs ts ((and_parts (is_name q.name) (list_all is_name (names_of qs ts)) h).1)
 
 abbrev name_at : Option PlainTensor → List ℕ
 name_at o = elim o [ None ↦ [] | Some t ↦ t.name ]
 
 name_there : (ts : List PlainTensor) (k : ℕ) → list_all (λ t. is_name t.name) ts ≡ true → k < length ts → is_name (name_at (slice_get ts k)) ≡ true
 name_there [] k h lt = absurd (omega arith)
-name_there (t ∷ ts) zero h lt = first (is_name t.name) (list_all (λ u. is_name u.name) ts) h
+name_there (t ∷ ts) zero h lt = (and_parts (is_name t.name) (list_all (λ u. is_name u.name) ts) h).0
 name_there (t ∷ ts) (suc k) h lt =
-    name_there ts k (second (is_name t.name) (list_all (λ u. is_name u.name) ts) h) (omega arith)
-
-unwrapped : {A : Type 0} (a b : A) → Some a ≡ Some b → a ≡ b
-unwrapped a b e = cc
+    name_there ts k ((and_parts (is_name t.name) (list_all (λ u. is_name u.name) ts) h).1) (omega arith)
 
 param_named : (qs : List PlainParam) (k : ℕ) (q : PlainParam) → slice_get qs k ≡ Some q → list_all (λ r. is_name r.name) qs ≡ true → is_name q.name ≡ true
 param_named [] k q e h = cc
 param_named (r ∷ qs) zero q e h =
-    let same : r ≡ q = unwrapped r q e in
-    ap (λ (s : PlainParam). is_name s.name) (sym same) ∙ first (is_name r.name) (list_all (λ s. is_name s.name) qs) h
-param_named (r ∷ qs) (suc k) q e h = param_named qs k q e (second (is_name r.name) (list_all (λ s. is_name s.name) qs) h)
+    let same : r ≡ q = same_Some r q e in
+    ap (λ (s : PlainParam). is_name s.name) (sym same) ∙ (and_parts (is_name r.name) (list_all (λ s. is_name s.name) qs) h).0
+param_named (r ∷ qs) (suc k) q e h = param_named qs k q e ((and_parts (is_name r.name) (list_all (λ s. is_name s.name) qs) h).1)
 
 value_by : (p : PlainProgram) (k i : ℕ) (o : Option PlainParam) → slice_get p.params k ≡ o → list_all (λ q. is_name q.name) p.params ≡ true → (elim o as (λ v. Bool) [ None ↦ false | Some q ↦ nat_lt i (size q.sizes) ]) ≡ true → i < 2 ^ 64 → IsValueThere p k i
 value_by p k i None e n h lt = cc
@@ -138,18 +133,18 @@ writable : (p : PlainProgram) (f : Formula) → list_all (λ q. is_name q.name) 
 unfolding tensor_name
 writable p (number n) qs ts u s small = s
 writable p (read t o) qs ts u s small =
-    let both_first : (nat_lt t (length p.tensors) && length o == suc (length p.extents)) ≡ true = first (nat_lt t (length p.tensors) && length o == suc (length p.extents)) (is_near o) u in
-    let there : t < length p.tensors = ltb-true t (length p.tensors) (first (nat_lt t (length p.tensors)) (length o == suc (length p.extents)) both_first) in
-    (name_there p.tensors t ts there, near_small o (second (nat_lt t (length p.tensors) && length o == suc (length p.extents)) (is_near o) u))
+    let both_first : (nat_lt t (length p.tensors) && length o == suc (length p.extents)) ≡ true = (and_parts (nat_lt t (length p.tensors) && length o == suc (length p.extents)) (is_near o) u).0 in
+    let there : t < length p.tensors = ltb-true t (length p.tensors) ((and_parts (nat_lt t (length p.tensors)) (length o == suc (length p.extents)) both_first).0) in
+    (name_there p.tensors t ts there, near_small o ((and_parts (nat_lt t (length p.tensors) && length o == suc (length p.extents)) (is_near o) u).1))
 writable p (param k i) qs ts u s small = value_there p k i qs u (small k i u)
 writable p (unary op a) qs ts u s small = writable p a qs ts u s small
 writable p (binary op a b) qs ts u s small =
     let e : Formula → Bool = each_use (is_good_cell p) (is_good_place p) in
-    (writable p a qs ts (first (e a) (e b) u) s.0 small, writable p b qs ts (second (e a) (e b) u) s.1 small)
+    (writable p a qs ts ((and_parts (e a) (e b) u).0) s.0 small, writable p b qs ts ((and_parts (e a) (e b) u).1) s.1 small)
 writable p (choice c a b) qs ts u s small =
     let e : Formula → Bool = each_use (is_good_cell p) (is_good_place p) in
-    let l : (e c && e a) ≡ true = first (e c && e a) (e b) u in
-    (writable p c qs ts (first (e c) (e a) l) s.0 small, writable p a qs ts (second (e c) (e a) l) s.1 small, writable p b qs ts (second (e c && e a) (e b) u) s.2 small)
+    let l : (e c && e a) ≡ true = (and_parts (e c && e a) (e b) u).0 in
+    (writable p c qs ts ((and_parts (e c) (e a) l).0) s.0 small, writable p a qs ts ((and_parts (e c) (e a) l).1) s.1 small, writable p b qs ts ((and_parts (e c && e a) (e b) u).1) s.2 small)
 writable p (cast t a) qs ts u s small = (type_named t s.0, writable p a qs ts u s.1 small)
 
 count_cons : (q : PlainParam) (qs : List PlainParam) → value_count (q ∷ qs) ≡ size q.sizes + value_count qs
@@ -158,7 +153,7 @@ count_cons q qs = sum_by-cons (λ (r : PlainParam). size r.sizes) q qs
 pub count_there : (qs : List PlainParam) (k : ℕ) (q : PlainParam) → slice_get qs k ≡ Some q → size q.sizes ≤ value_count qs
 count_there [] k q e = cc
 count_there (r ∷ qs) zero q e =
-    let same : size r.sizes ≡ size q.sizes = ap (λ (s : PlainParam). size s.sizes) (unwrapped r q e) in
+    let same : size r.sizes ≡ size q.sizes = ap (λ (s : PlainParam). size s.sizes) (same_Some r q e) in
     let all : value_count (r ∷ qs) ≡ size r.sizes + value_count qs = count_cons r qs in
     omega arith
 count_there (r ∷ qs) (suc k) q e =
@@ -180,10 +175,10 @@ params_read : (qs : List PlainParam) → AreSizedParams qs → list_all (λ q. i
 params_read [] s n g few = tt
 params_read (q ∷ qs) s n g few =
     let all : value_count (q ∷ qs) ≡ size q.sizes + value_count qs = count_cons q qs in
-    let good : is_good_param q ≡ true = first (is_good_param q) (list_all is_good_param qs) g in
-    let sizes : list_all nonzero q.sizes ≡ true = second (nat_le (length q.sizes) 2) (list_all nonzero q.sizes) good in
-    let one : IsParam q = record { ty = type_named q.ty s.0; name = first (is_name q.name) (list_all (λ r. is_name r.name) qs) n; sizes = are_words q.sizes sizes (omega arith) } in
-    (one, params_read qs s.1 (second (is_name q.name) (list_all (λ r. is_name r.name) qs) n) (second (is_good_param q) (list_all is_good_param qs) g) (omega arith))
+    let good : is_good_param q ≡ true = (and_parts (is_good_param q) (list_all is_good_param qs) g).0 in
+    let sizes : list_all nonzero q.sizes ≡ true = (and_parts (nat_le (length q.sizes) 2) (list_all nonzero q.sizes) good).1 in
+    let one : IsParam q = record { ty = type_named q.ty s.0; name = (and_parts (is_name q.name) (list_all (λ r. is_name r.name) qs) n).0; sizes = are_words q.sizes sizes (omega arith) } in
+    (one, params_read qs s.1 ((and_parts (is_name q.name) (list_all (λ r. is_name r.name) qs) n).1) ((and_parts (is_good_param q) (list_all is_good_param qs) g).1) (omega arith))
 
 -- what all formulas of a program may take for granted
 record IsScope (p : PlainProgram) : Type 0 where
@@ -199,8 +194,8 @@ body_read p (Some f) h u s = writable p f h.params h.tensors u s h.places
 tensors_read : (p : PlainProgram) (ts : List PlainTensor) → IsScope p → AreSizedTensors ts → list_all (λ t. is_name t.name) ts ≡ true → list_all (has_good_uses p) ts ≡ true → AreTensors p ts
 tensors_read p [] h s n u = tt
 tensors_read p (t ∷ ts) h s n u =
-    let one : IsTensor p t = record { ty = type_named t.ty s.0.0; name = first (is_name t.name) (list_all (λ v. is_name v.name) ts) n; body = body_read p t.formula h (first (has_good_uses p t) (list_all (has_good_uses p) ts) u) s.0.1 } in
-    (one, tensors_read p ts h s.1 (second (is_name t.name) (list_all (λ v. is_name v.name) ts) n) (second (has_good_uses p t) (list_all (has_good_uses p) ts) u))
+    let one : IsTensor p t = record { ty = type_named t.ty s.0.0; name = (and_parts (is_name t.name) (list_all (λ v. is_name v.name) ts) n).0; body = body_read p t.formula h ((and_parts (has_good_uses p t) (list_all (has_good_uses p) ts) u).0) s.0.1 } in
+    (one, tensors_read p ts h s.1 ((and_parts (is_name t.name) (list_all (λ v. is_name v.name) ts) n).1) ((and_parts (has_good_uses p t) (list_all (has_good_uses p) ts) u).1))
 
 -- a valid program whose numbers fit their types can be read back
 pub readable : (p : PlainProgram) → IsValid p → IsSizedProgram p → IsReadBack p

@@ -1,10 +1,11 @@
 -- The canonical text of a valid program is no longer than a text may be.
-use Rattle.std.proofs.Common.{◌≡◌, ℕ, suc, ◌+◌, ◌*◌, ◌<◌, ◌≤◌, ◌^◌, ◌==◌, ◌&&◌, Bool, true, false, not, nat_le, nat_lt, List, [], ◌∷◌, ◌++◌, length, map, Some, None, Option, ℤ, pos, negsuc, unsigned_abs, refl, ap, arith, codes, length-append, if◌then◌else◌}
+use Rattle.std.proofs.Common.{◌≡◌, ℕ, suc, ◌+◌, ◌*◌, ◌<◌, ◌≤◌, ◌^◌, ◌==◌, ◌&&◌, Bool, true, false, not, nat_le, nat_lt, List, [], ◌∷◌, ◌++◌, length, map, Some, None, Option, ℤ, pos, negsuc, unsigned_abs, refl, ap, arith, codes, length-append, if◌then◌else◌, leb-true, ltb-true}
 use Rattle.std.specs.Fmt.{decimal, signed_decimal}
 use Rattle.std.specs.List.{list_all}
 use Rattle.std.proofs.lemmas.Bool.Decides.{nat_tests}
 use Rattle.std.proofs.lemmas.Fmt.{length-decimal-le}
 use Rattle.std.proofs.lemmas.List.Sums.{sum_by-cons}
+use Rattle.std.proofs.lemmas.Bool.{and_parts}
 use Rattle.soda_words.specs.IntType.{IntType}
 use Rattle.soda_words.specs.declared.operators.UnOp.{UnOp}
 use Rattle.soda_words.specs.declared.operators.UnOp.TheVariants.{Plus, Minus, Flip, Not, Abs}
@@ -24,20 +25,13 @@ use Rattle.soda_print.specs.Canonical.{behind_commas, binary_text, binary_word, 
 use Rattle.soda_print.specs.Sized.{IsSizedProgram}
 use Rattle.soda_print.proofs.Read.{AreParams, AreSettings, AreTensors, IsBody, IsReadBack}
 use Rattle.soda_print.proofs.Readable.{positive, readable}
-use Rattle.soda_print.proofs.Tokens.{first, second}
 use Rattle.soda_print.proofs.Tokenized.{AreSmall, AreWords, IsValueThere, IsWritable, value_is}
-
-true_lt : (a b : ℕ) → nat_lt a b ≡ true → a < b
-true_lt a b h = grind (arith, nat_tests)
-
-true_le : (a b : ℕ) → nat_le a b ≡ true → a ≤ b
-true_le a b h = grind (arith, nat_tests)
 
 -- a name has at most 64 bytes
 name_short : (w : List ℕ) → is_name w ≡ true → length w ≤ 64
 name_short [] h = cc
 name_short (b ∷ bs) h =
-    let less : length bs < 64 = true_lt (length bs) 64 (second (begins_name b && list_all is_word_byte bs) (nat_lt (length bs) 64) h) in
+    let less : length bs < 64 = ltb-true (length bs) 64 ((and_parts (begins_name b && list_all is_word_byte bs) (nat_lt (length bs) 64) h).1) in
     omega arith
 
 -- a number at most 20 digits
@@ -190,7 +184,7 @@ small_by p o = elim o as (λ v. Bool) [ None ↦ true | Some f ↦ nat_le (token
 body_short : (p : PlainProgram) (o : Option Formula) → IsBody p o → length p.extents ≤ 3 → small_by p o ≡ true → length (elim o as (λ v. List ℕ) [ None ↦ tile_text p | Some f ↦ left_text p ++ (codes " = " ++ formula_text p f) ]) ≤ 96017
 body_short p None h few s = omega (arith, tile_short p h few)
 body_short p (Some f) h few s =
-    let tokens : token_count p f ≤ 1500 = true_le (token_count p f) 1500 (first (nat_le (token_count p f) 1500) (nat_le (most_open p f) 64) s) in
+    let tokens : token_count p f ≤ 1500 = leb-true (token_count p f) 1500 ((and_parts (nat_le (token_count p f) 1500) (nat_le (most_open p f) 64) s).0) in
     omega (arith, length-append (left_text p) (codes " = " ++ formula_text p f), left_short p few, formula_short p f h)
 
 role_short : (r : Role) → length (role_word r) ≤ 6
@@ -210,9 +204,9 @@ tensors_short : (p : PlainProgram) (ts : List PlainTensor) → AreTensors p ts �
 tensors_short p [] h few s = omega arith
 tensors_short p (t ∷ ts) h few s =
     let head : length (headed (role_word t.role) t.ty t.name) ≤ 137 = head_short (role_word t.role) t.ty t.name (role_short t.role) h.0.ty h.0.name in
-    let body = body_short p t.formula h.0.body few (first (is_small p t) (list_all (is_small p) ts) s) in
+    let body = body_short p t.formula h.0.body few ((and_parts (is_small p t) (list_all (is_small p) ts) s).0) in
     let line : length (tensor_line p t) ≤ 96154 = omega (arith, length-append (headed (role_word t.role) t.ty t.name) (elim t.formula as (λ v. List ℕ) [ None ↦ tile_text p | Some f ↦ left_text p ++ (codes " = " ++ formula_text p f) ])) in
-    omega (arith, ended_one (tensor_line p t) (map (tensor_line p) ts), tensors_short p ts h.1 few (second (is_small p t) (list_all (is_small p) ts) s))
+    omega (arith, ended_one (tensor_line p t) (map (tensor_line p) ts), tensors_short p ts h.1 few ((and_parts (is_small p t) (list_all (is_small p) ts) s).1))
 
 abbrev nonzero : ℕ → Bool
 nonzero n = not (n == 0)
@@ -220,20 +214,20 @@ nonzero n = not (n == 0)
 params_short : (qs : List PlainParam) → AreParams qs → list_all is_good_param qs ≡ true → length (ended (map param_line qs)) ≤ 182 * length qs
 params_short [] h g = omega arith
 params_short (q ∷ qs) h g =
-    let good : is_good_param q ≡ true = first (is_good_param q) (list_all is_good_param qs) g in
-    let two : length q.sizes ≤ 2 = true_le (length q.sizes) 2 (first (nat_le (length q.sizes) 2) (list_all nonzero q.sizes) good) in
+    let good : is_good_param q ≡ true = (and_parts (is_good_param q) (list_all is_good_param qs) g).0 in
+    let two : length q.sizes ≤ 2 = leb-true (length q.sizes) 2 ((and_parts (nat_le (length q.sizes) 2) (list_all nonzero q.sizes) good).0) in
     let head : length (headed (codes "param") q.ty q.name) ≤ 137 = head_short (codes "param") q.ty q.name (omega arith) h.0.ty h.0.name in
     let line : length (param_line q) ≤ 181 = omega (arith, length-append (headed (codes "param") q.ty q.name) (indexes_text q.sizes), indexes_short q.sizes h.0.sizes) in
-    omega (arith, ended_one (param_line q) (map param_line qs), params_short qs h.1 (second (is_good_param q) (list_all is_good_param qs) g))
+    omega (arith, ended_one (param_line q) (map param_line qs), params_short qs h.1 ((and_parts (is_good_param q) (list_all is_good_param qs) g).1))
 
 -- there are no more params than values of them
 params_few : (qs : List PlainParam) → list_all is_good_param qs ≡ true → length qs ≤ value_count qs
 params_few [] g = omega arith
 params_few (q ∷ qs) g =
-    let good : is_good_param q ≡ true = first (is_good_param q) (list_all is_good_param qs) g in
-    let one : 1 ≤ size q.sizes = positive q.sizes (second (nat_le (length q.sizes) 2) (list_all nonzero q.sizes) good) in
+    let good : is_good_param q ≡ true = (and_parts (is_good_param q) (list_all is_good_param qs) g).0 in
+    let one : 1 ≤ size q.sizes = positive q.sizes ((and_parts (nat_le (length q.sizes) 2) (list_all nonzero q.sizes) good).1) in
     let all : value_count (q ∷ qs) ≡ size q.sizes + value_count qs = sum_by-cons (λ (r : PlainParam). size r.sizes) q qs in
-    omega (arith, params_few qs (second (is_good_param q) (list_all is_good_param qs) g))
+    omega (arith, params_few qs ((and_parts (is_good_param q) (list_all is_good_param qs) g).1))
 
 border_short : (b : Border) → length (border_word b) ≤ 8
 unfolding border_word

@@ -1,12 +1,11 @@
 -- The tokens of a text that is put together part by part.
-use Rattle.std.proofs.Common.{◌≡◌, ℕ, zero, suc, ◌<◌, ◌^◌, ◌==◌, Bool, true, false, not, ◌&&◌, ◌||◌, nat_le, nat_lt, lit<, List, [], ◌∷◌, ◌++◌, length, get_or, Some, refl, sym, ap, ◌∙◌, arith, rules, cond, inl, inr, if◌then◌else◌}
+use Rattle.std.proofs.Common.{◌≡◌, ℕ, zero, suc, ◌<◌, ◌^◌, ◌==◌, Bool, true, false, not, ◌&&◌, ◌||◌, nat_le, nat_lt, lit<, List, [], ◌∷◌, ◌++◌, length, get_or, Some, refl, sym, ap, ◌∙◌, arith, rules, cond, inl, inr, if◌then◌else◌, lt-ltb}
 use Rattle.std.specs.Fmt.{decimal}
 use Rattle.std.specs.List.{list_all}
-use Rattle.std.proofs.lemmas.Bool.{eqb-true}
+use Rattle.std.proofs.lemmas.Bool.{and_from, and_parts, eqb-true, or_left, or_right}
 use Rattle.std.proofs.lemmas.Bool.Decides.{eqb_tells, nat_tests}
 use Rattle.std.proofs.lemmas.Fmt.{decimal_digit, decimal_nonempty, digits_decimal, digits_value-decimal, first_decimal}
 use Rattle.std.proofs.lemmas.Str.Parse.{IsNumeralModel, numerals_by_fold}
-use borrow.Author.Tests.{lt-ltb}
 use Rattle.soda_words.specs.Names.{begins_name, is_digit, is_name, is_some_digits, is_word_byte}
 use Rattle.soda_words.specs.Tokens.{Front, begins_with_zero, first_word, front_of, is_number, is_white, line_behind, placed, tokens_behind, value_behind, word_token}
 use Rattle.soda_words.specs.declared.symbol.Symbol.TheVariants.{OpenRound, CloseRound, OpenSquare, CloseSquare, Comma, Colon, PlusSign, MinusSign, Tilde, Bang}
@@ -24,26 +23,6 @@ are_word_bytes w = list_all is_word_byte w
 
 abbrev pub on_line : ℕ → Token → Placed
 on_line line t = record { line = line; token = t }
-
-pub both : (s t : Bool) → s ≡ true → t ≡ true → (s && t) ≡ true
-both true t p q = q
-both false t p q = p
-
-pub first : (s t : Bool) → (s && t) ≡ true → s ≡ true
-first true t e = refl
-first false t e = cc
-
-pub second : (s t : Bool) → (s && t) ≡ true → t ≡ true
-second true t e = e
-second false t e = cc
-
-or_second : (s t : Bool) → t ≡ true → (s || t) ≡ true
-or_second true t e = refl
-or_second false t e = e
-
-pub or_first : (s t : Bool) → s ≡ true → (s || t) ≡ true
-or_first true t e = refl
-or_first false t e = cc
 
 none_of : (s t u v : Bool) → s ≡ false → t ≡ false → u ≡ false → v ≡ false → (s || t || u || v) ≡ false
 none_of s t u v p q r w = rw (p, q, r, w) refl
@@ -65,16 +44,16 @@ first_word_is : (w rest : List ℕ) → are_word_bytes w ≡ true → Stops rest
 first_word_is [] [] h s = refl
 first_word_is [] (b ∷ bs) h s = ap (λ t. if t then b ∷ first_word bs else []) s
 first_word_is (b ∷ bs) rest h s =
-    ap (λ t. if t then b ∷ first_word (bs ++ rest) else []) (first (is_word_byte b) (are_word_bytes bs) h)
-    ∙ ap (λ (v : List ℕ). b ∷ v) (first_word_is bs rest (second (is_word_byte b) (are_word_bytes bs) h) s)
+    ap (λ t. if t then b ∷ first_word (bs ++ rest) else []) ((and_parts (is_word_byte b) (are_word_bytes bs) h).0)
+    ∙ ap (λ (v : List ℕ). b ∷ v) (first_word_is bs rest ((and_parts (is_word_byte b) (are_word_bytes bs) h).1) s)
 
 -- the bytes of a word are passed
 passed : (w rest : List ℕ) (line : ℕ) → are_word_bytes w ≡ true → tokens_behind (length w) line (w ++ rest) ≡ tokens_behind 0 line rest
 unfolding tokens_behind
 passed [] rest line h = refl
 passed (b ∷ bs) rest line h =
-    ap (λ l. tokens_behind (length bs) l (bs ++ rest)) (same_line line b (first (is_word_byte b) (are_word_bytes bs) h))
-    ∙ passed bs rest line (second (is_word_byte b) (are_word_bytes bs) h)
+    ap (λ l. tokens_behind (length bs) l (bs ++ rest)) (same_line line b ((and_parts (is_word_byte b) (are_word_bytes bs) h).0))
+    ∙ passed bs rest line ((and_parts (is_word_byte b) (are_word_bytes bs) h).1)
 
 third_of : (s t u : Bool) (f g h k : Front) → s ≡ false → t ≡ false → u ≡ true → cond s f (cond t g (cond u h k)) ≡ h
 third_of s t u f g h k p q r = rw (p, q, r) refl
@@ -87,8 +66,8 @@ word_front b bs w = third_of (is_white b) (b == 35) (is_word_byte b) _ _ _ _ (no
 pub word_first : (b : ℕ) (w rest : List ℕ) (line : ℕ) → are_word_bytes (b ∷ w) ≡ true → Stops rest → tokens_behind 0 line (b ∷ (w ++ rest)) ≡ on_line line (word_token (b ∷ w)) ∷ tokens_behind 0 line rest
 unfolding tokens_behind
 word_first b w rest line h s =
-    let one : is_word_byte b ≡ true = first (is_word_byte b) (are_word_bytes w) h in
-    let more : are_word_bytes w ≡ true = second (is_word_byte b) (are_word_bytes w) h in
+    let one : is_word_byte b ≡ true = (and_parts (is_word_byte b) (are_word_bytes w) h).0 in
+    let more : are_word_bytes w ≡ true = (and_parts (is_word_byte b) (are_word_bytes w) h).1 in
     ap (λ (f : Front). placed line f.token ++ tokens_behind f.more (line_behind line b) (w ++ rest)) (word_front b (w ++ rest) one)
     ∙ ap (λ (v : List ℕ). on_line line (word_token (b ∷ v)) ∷ tokens_behind (length v) (line_behind line b) (w ++ rest)) (first_word_is w rest more s)
     ∙ ap (λ l. on_line line (word_token (b ∷ w)) ∷ tokens_behind (length w) l (w ++ rest)) (same_line line b one)
@@ -157,7 +136,7 @@ own = numerals_by_fold _ (search rules) value_behind (search rules)
 pub digits_words : (ds : List ℕ) → list_all is_digit ds ≡ true → are_word_bytes ds ≡ true
 digits_words [] h = refl
 digits_words (d ∷ ds) h =
-    both (begins_name d || is_digit d) (are_word_bytes ds) (or_second (begins_name d) (is_digit d) (first (is_digit d) (list_all is_digit ds) h)) (digits_words ds (second (is_digit d) (list_all is_digit ds) h))
+    and_from (begins_name d || is_digit d) (are_word_bytes ds) (or_right (begins_name d) (is_digit d) ((and_parts (is_digit d) (list_all is_digit ds) h).0)) (digits_words ds ((and_parts (is_digit d) (list_all is_digit ds) h).1))
 
 some_digits : (ds : List ℕ) → list_all is_digit ds ≡ true → 0 < length ds → is_some_digits ds ≡ true
 some_digits [] h lt = absurd (omega arith)
@@ -177,17 +156,17 @@ one_zero (suc n) h = no_zero_first (decimal (suc n)) (first_decimal (suc n) (ome
 
 pub number_is : (n : ℕ) → n < 2 ^ 64 → is_number (decimal n) ≡ true
 number_is n h =
-    both (is_some_digits (decimal n) && (not (begins_with_zero (decimal n)) || length (decimal n) == 1)) (nat_lt (value_behind 0 (decimal n)) (2 ^ 64))
-    (both (is_some_digits (decimal n)) (not (begins_with_zero (decimal n)) || length (decimal n) == 1) (some_digits (decimal n) (digits_decimal own n h) (decimal_nonempty n h)) (one_zero n h))
+    and_from (is_some_digits (decimal n) && (not (begins_with_zero (decimal n)) || length (decimal n) == 1)) (nat_lt (value_behind 0 (decimal n)) (2 ^ 64))
+    (and_from (is_some_digits (decimal n)) (not (begins_with_zero (decimal n)) || length (decimal n) == 1) (some_digits (decimal n) (digits_decimal own n h) (decimal_nonempty n h)) (one_zero n h))
     (lt-ltb (value_behind 0 (decimal n)) (2 ^ 64) (omega (arith, digits_value-decimal own n h)))
 
 -- a name is one token
 pub name_first : (w rest : List ℕ) (line : ℕ) → is_name w ≡ true → Stops rest → tokens_behind 0 line (w ++ rest) ≡ on_line line (Name w) ∷ tokens_behind 0 line rest
 name_first [] rest line h s = cc
 name_first (b ∷ w) rest line h s =
-    let lead : (begins_name b && are_word_bytes w) ≡ true = first (begins_name b && are_word_bytes w) (nat_lt (length w) 64) h in
-    let one : is_word_byte b ≡ true = or_first (begins_name b) (is_digit b) (first (begins_name b) (are_word_bytes w) lead) in
-    word_first b w rest line (both (is_word_byte b) (are_word_bytes w) one (second (begins_name b) (are_word_bytes w) lead)) s
+    let lead : (begins_name b && are_word_bytes w) ≡ true = (and_parts (begins_name b && are_word_bytes w) (nat_lt (length w) 64) h).0 in
+    let one : is_word_byte b ≡ true = or_left (begins_name b) (is_digit b) ((and_parts (begins_name b) (are_word_bytes w) lead).0) in
+    word_first b w rest line (and_from (is_word_byte b) (are_word_bytes w) one ((and_parts (begins_name b) (are_word_bytes w) lead).1)) s
     ∙ ap (λ t. on_line line (if t then Name (b ∷ w) else (if is_number (b ∷ w) then Number (value_behind 0 (b ∷ w)) else Bad)) ∷ tokens_behind 0 line rest) h
 
 other : (d k : ℕ) → nat_le d 57 ≡ true → 57 < k → d == k ≡ false
@@ -198,13 +177,13 @@ above k d h lt = grind (arith, nat_tests)
 
 no_name_digit : (d : ℕ) → is_digit d ≡ true → begins_name d ≡ false
 no_name_digit d h =
-    let most : nat_le d 57 ≡ true = second (nat_le 48 d) (nat_le d 57) h in
+    let most : nat_le d 57 ≡ true = (and_parts (nat_le 48 d) (nat_le d 57) h).1 in
     neither (nat_le 65 d && nat_le d 90) (nat_le 97 d && nat_le d 122) (d == 95) (ap (λ t. t && nat_le d 90) (above 65 d most (lit< tt))) (ap (λ t. t && nat_le d 122) (above 97 d most (lit< tt))) (other d 95 most (lit< tt))
 
 digits_no_name : (ds : List ℕ) → list_all is_digit ds ≡ true → is_name ds ≡ false
 digits_no_name [] h = refl
 digits_no_name (d ∷ ds) h =
-    ap (λ t. t && are_word_bytes ds && nat_lt (length ds) 64) (no_name_digit d (first (is_digit d) (list_all is_digit ds) h))
+    ap (λ t. t && are_word_bytes ds && nat_lt (length ds) 64) (no_name_digit d ((and_parts (is_digit d) (list_all is_digit ds) h).0))
 
 word_numbered : (w : List ℕ) (n line : ℕ) (rest : List ℕ) → w ≡ decimal n → 0 < length w → are_word_bytes w ≡ true → Stops rest → tokens_behind 0 line (w ++ rest) ≡ on_line line (word_token w) ∷ tokens_behind 0 line rest
 word_numbered [] n line rest e lt h s = absurd (omega arith)
@@ -232,12 +211,12 @@ BeginsOther (b ∷ bs) = b == 61 ≡ false
 pub name_begins : (w : List ℕ) → is_name w ≡ true → BeginsOther w
 name_begins [] h = cc
 name_begins (b ∷ w) h =
-    let lead : (begins_name b && are_word_bytes w) ≡ true = first (begins_name b && are_word_bytes w) (nat_lt (length w) 64) h in
-    differs b 61 refl (or_first (begins_name b) (is_digit b) (first (begins_name b) (are_word_bytes w) lead))
+    let lead : (begins_name b && are_word_bytes w) ≡ true = (and_parts (begins_name b && are_word_bytes w) (nat_lt (length w) 64) h).0 in
+    differs b 61 refl (or_left (begins_name b) (is_digit b) ((and_parts (begins_name b) (are_word_bytes w) lead).0))
 
 words_begin : (w : List ℕ) → are_word_bytes w ≡ true → 0 < length w → BeginsOther w
 words_begin [] h lt = absurd (omega arith)
-words_begin (b ∷ w) h lt = differs b 61 refl (first (is_word_byte b) (are_word_bytes w) h)
+words_begin (b ∷ w) h lt = differs b 61 refl ((and_parts (is_word_byte b) (are_word_bytes w) h).0)
 
 pub number_begins : (n : ℕ) → n < 2 ^ 64 → BeginsOther (decimal n)
 number_begins n h = words_begin (decimal n) (digits_words (decimal n) (digits_decimal own n h)) (decimal_nonempty n h)

@@ -1,14 +1,13 @@
 -- The canonical text of a program.
-use Rattle.std.specs.Prelude.{ℕ, ◌/◌, ◌%◌, ◌==◌, List, [], ◌∷◌, ◌++◌, map, flat_map, codes, Some, None, slice_get, if◌then◌else◌}
+use Rattle.std.specs.Prelude.{ℕ, ◌/◌, ◌%◌, Bool, ◌==◌, List, [], ◌∷◌, ◌++◌, map, flat_map, codes, Some, None, slice_get, if◌then◌else◌}
 use Rattle.std.specs.Fmt.{decimal, signed_decimal}
 use Rattle.soda_words.specs.IntType.{IntType}
+use Rattle.soda_words.specs.OperatorTable.{Row, binary_row, operand_level, unary_row}
 use Rattle.soda_words.specs.declared.operators.UnOp.{UnOp}
-use Rattle.soda_words.specs.declared.operators.UnOp.TheVariants.{Plus, Minus, Flip, Not, Abs}
 use Rattle.soda_words.specs.declared.operators.BinOp.{BinOp}
-use Rattle.soda_words.specs.declared.operators.BinOp.TheVariants.{LogOr, LogAnd, BitOr, BitXor, BitAnd, Eq, Ne, Lt, Le, Gt, Ge, Add, Sub, Mul, Div, Rem, Min, Max}
 use Rattle.soda_ir.specs.Formula.{Formula, number, read, param, unary, binary, choice, cast}
 use Rattle.soda_ir.specs.Program.{PlainParam, PlainProgram, PlainTensor}
-use Rattle.soda_ir.specs.Written.{binary_level, left_pairs, operand_pairs, right_pairs, unary_level}
+use Rattle.soda_ir.specs.Written.{left_pairs, operand_pairs, right_pairs}
 use Rattle.soda_ir.specs.declared.program.Border.{Border}
 use Rattle.soda_ir.specs.declared.program.Border.TheVariants.{Ignore, Preserve}
 use Rattle.soda_ir.specs.declared.program.Role.{Role}
@@ -41,44 +40,32 @@ in_pairs pairs w = opening pairs ++ (w ++ closing pairs)
 unfoldable pub type_text : IntType → List ℕ
 type_text t = (if t.signed then codes "int" else codes "uint") ++ decimal t.bits
 
--- the word of an operator of one operand
+-- how an operator of one operand is written
 unfoldable pub unary_word : UnOp → List ℕ
-unary_word Plus = codes "+"
-unary_word Minus = codes "-"
-unary_word Flip = codes "~"
-unary_word Not = codes "!"
-unary_word Abs = codes "abs"
+unary_word op = (unary_row op).spelling
 
--- the word of an operator of two operands
+-- how an operator of two operands is written
 unfoldable pub binary_word : BinOp → List ℕ
-binary_word LogOr = codes "||"
-binary_word LogAnd = codes "&&"
-binary_word BitOr = codes "|"
-binary_word BitXor = codes "^"
-binary_word BitAnd = codes "&"
-binary_word Eq = codes "=="
-binary_word Ne = codes "!="
-binary_word Lt = codes "<"
-binary_word Le = codes "<="
-binary_word Gt = codes ">"
-binary_word Ge = codes ">="
-binary_word Add = codes "+"
-binary_word Sub = codes "-"
-binary_word Mul = codes "*"
-binary_word Div = codes "/"
-binary_word Rem = codes "%"
-binary_word Min = codes "min"
-binary_word Max = codes "max"
+binary_word op = (binary_row op).spelling
+
+-- an operator of this row is written as a call
+abbrev pub is_call : Row → Bool
+is_call r = r.level == operand_level
 
 -- an operator of one operand: a call, or the operator in front of its operand, in so many pairs of brackets
 unfoldable pub unary_text : UnOp → (pairs : ℕ) → List ℕ → List ℕ
 unary_text op pairs a =
-    if unary_level op == 10 then unary_word op ++ listed (a ∷ []) else unary_word op ++ in_pairs pairs a
+    if is_call (unary_row op) then unary_word op ++ listed (a ∷ []) else unary_word op ++ in_pairs pairs a
 
--- an operator of two operands: a call, or the operator between them with a blank on each side
+-- an operator between its operands, with a blank on each side
+abbrev pub infix_text : (word left right : List ℕ) → List ℕ
+infix_text word left right = left ++ (codes " " ++ (word ++ (codes " " ++ right)))
+
+-- an operator of two operands: a call, or the operator between them, each in so many pairs of brackets
 unfoldable pub binary_text : BinOp → (left right : ℕ) → List ℕ → List ℕ → List ℕ
 binary_text op left right a b =
-    if binary_level op == 10 then binary_word op ++ listed (a ∷ b ∷ []) else in_pairs left a ++ (codes " " ++ (binary_word op ++ (codes " " ++ in_pairs right b)))
+    if is_call (binary_row op) then binary_word op ++ listed (a ∷ b ∷ [])
+    else infix_text (binary_word op) (in_pairs left a) (in_pairs right b)
 
 -- the name of a tensor, and nothing past the last
 unfoldable pub tensor_name : PlainProgram → ℕ → List ℕ
@@ -134,7 +121,8 @@ left_text p = listed (map (λ n. codes "0") p.extents ++ codes "0" ∷ [])
 -- the line of a tensor: an input with its tile, a local or output with its formula
 abbrev pub tensor_line : PlainProgram → PlainTensor → List ℕ
 tensor_line p t =
-    headed (role_word t.role) t.ty t.name ++ (elim t.formula [ None ↦ tile_text p | Some f ↦ left_text p ++ (codes " = " ++ formula_text p f) ])
+    headed (role_word t.role) t.ty t.name
+    ++ (elim t.formula [ None ↦ tile_text p | Some f ↦ left_text p ++ (codes " = " ++ formula_text p f) ])
 
 unfoldable pub border_word : Border → List ℕ
 border_word Ignore = codes "ignore"
@@ -143,7 +131,12 @@ border_word Preserve = codes "preserve"
 -- the lines of the settings
 abbrev pub setting_lines : PlainProgram → List (List ℕ)
 setting_lines p =
-    (codes "kernel: " ++ p.kernel) ∷ (codes "burst width: " ++ decimal p.burst) ∷ (codes "unroll factor: " ++ decimal p.unroll) ∷ (codes "iterate: " ++ decimal p.iterate) ∷ (codes "border: " ++ border_word p.border) ∷ []
+    (codes "kernel: " ++ p.kernel)
+    ∷ (codes "burst width: " ++ decimal p.burst)
+    ∷ (codes "unroll factor: " ++ decimal p.unroll)
+    ∷ (codes "iterate: " ++ decimal p.iterate)
+    ∷ (codes "border: " ++ border_word p.border)
+    ∷ []
 
 -- the lines: the settings, the params, and the tensors, of which the inputs stand first in a valid program
 abbrev pub canonical_lines : PlainProgram → List (List ℕ)

@@ -1,3 +1,3 @@
 pub mod Canonical
-pub mod Steps
+pub mod machine
 pub mod Sized

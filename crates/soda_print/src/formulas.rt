@@ -3,17 +3,13 @@ ghost use Rattle.soda_ir.specs.Program.{plain};
 ghost use Rattle.soda_ir.specs.Tree.{formula_of};
 ghost use Rattle.soda_print.specs.Canonical.{formula_text, indexes, indexes_text, tensor_name, value_text};
 ghost use Rattle.soda_print.specs.Sized.{IsSized};
-ghost use Rattle.soda_print.specs.Steps.{binary_begin, binary_end, binary_middle, unary_begin, unary_end};
+ghost use Rattle.soda_print.specs.machine.Steps.{binary_begin, binary_end, binary_middle, unary_begin, unary_end};
 
 use crate::NoMemory;
 use crate::text::{add, add_indexes, add_number, add_offset, add_type, close, open};
-use crate::words::{binary_word, unary_word};
-use soda_words::{BinOp, UnOp};
-use soda_ir::{Expr, Parts, binary_level, pairs_round, unary_level};
+use soda_ir::{Expr, Parts, pairs_round};
+use soda_words::{BinOp, OPERAND_LEVEL, PREFIX_LEVEL, UnOp};
 use std::alloc::Global;
-
-// The level of a call.
-const CALL: u64 = 10;
 
 // Adds the name of a tensor.
 #[tactic(auto, unfolding(crate::specs::Canonical::tensor_name))]
@@ -65,12 +61,12 @@ fn add_value(
 }
 
 // Adds what stands in front of the operand of an operator.
-#[tactic(auto, using(crate::proofs::Appended::appended), unfolding(crate::specs::Steps::unary_begin))]
+#[tactic(auto, using(crate::proofs::Appended::appended), unfolding(crate::specs::machine::Steps::unary_begin, crate::specs::Canonical::unary_word))]
 fn begin_unary(text: &mut Vec<u8>, op: UnOp, pairs: u64) -> Result<(), NoMemory>
     ensures { OnOk result (text.new.items ≡ text.old.items ++ unary_begin op pairs) }
 {
-    add(text, unary_word(op))?;
-    if unary_level(op) == CALL {
+    add(text, op.spelling())?;
+    if op.level() == OPERAND_LEVEL {
         add(text, b"(")
     } else {
         open(text, pairs)
@@ -78,11 +74,11 @@ fn begin_unary(text: &mut Vec<u8>, op: UnOp, pairs: u64) -> Result<(), NoMemory>
 }
 
 // Adds what stands behind the operand of an operator.
-#[tactic(auto, using(crate::proofs::Appended::appended), unfolding(crate::specs::Steps::unary_end))]
+#[tactic(auto, using(crate::proofs::Appended::appended), unfolding(crate::specs::machine::Steps::unary_end))]
 fn end_unary(text: &mut Vec<u8>, op: UnOp, pairs: u64) -> Result<(), NoMemory>
     ensures { OnOk result (text.new.items ≡ text.old.items ++ unary_end op pairs) }
 {
-    if unary_level(op) == CALL {
+    if op.level() == OPERAND_LEVEL {
         add(text, b")")
     } else {
         close(text, pairs)
@@ -90,12 +86,12 @@ fn end_unary(text: &mut Vec<u8>, op: UnOp, pairs: u64) -> Result<(), NoMemory>
 }
 
 // Adds what stands in front of the left operand of an operator.
-#[tactic(auto, using(crate::proofs::Appended::appended), unfolding(crate::specs::Steps::binary_begin))]
+#[tactic(auto, using(crate::proofs::Appended::appended), unfolding(crate::specs::machine::Steps::binary_begin, crate::specs::Canonical::binary_word))]
 fn begin_binary(text: &mut Vec<u8>, op: BinOp, left: u64) -> Result<(), NoMemory>
     ensures { OnOk result (text.new.items ≡ text.old.items ++ binary_begin op left) }
 {
-    if binary_level(op) == CALL {
-        add(text, binary_word(op))?;
+    if op.level() == OPERAND_LEVEL {
+        add(text, op.spelling())?;
         add(text, b"(")
     } else {
         open(text, left)
@@ -103,27 +99,27 @@ fn begin_binary(text: &mut Vec<u8>, op: BinOp, left: u64) -> Result<(), NoMemory
 }
 
 // Adds what stands between the operands of an operator.
-#[tactic(auto, using(crate::proofs::Appended::appended), unfolding(crate::specs::Steps::binary_middle))]
+#[tactic(auto, using(crate::proofs::Appended::appended), unfolding(crate::specs::machine::Steps::binary_middle, crate::specs::Canonical::binary_word))]
 fn part_binary(text: &mut Vec<u8>, op: BinOp, left: u64, right: u64) -> Result<(), NoMemory>
     ensures { OnOk result (text.new.items ≡ text.old.items ++ binary_middle op left right) }
 {
-    if binary_level(op) == CALL {
+    if op.level() == OPERAND_LEVEL {
         add(text, b", ")
     } else {
         close(text, left)?;
         add(text, b" ")?;
-        add(text, binary_word(op))?;
+        add(text, op.spelling())?;
         add(text, b" ")?;
         open(text, right)
     }
 }
 
 // Adds what stands behind the right operand of an operator.
-#[tactic(auto, using(crate::proofs::Appended::appended), unfolding(crate::specs::Steps::binary_end))]
+#[tactic(auto, using(crate::proofs::Appended::appended), unfolding(crate::specs::machine::Steps::binary_end))]
 fn end_binary(text: &mut Vec<u8>, op: BinOp, right: u64) -> Result<(), NoMemory>
     ensures { OnOk result (text.new.items ≡ text.old.items ++ binary_end op right) }
 {
-    if binary_level(op) == CALL {
+    if op.level() == OPERAND_LEVEL {
         add(text, b")")
     } else {
         close(text, right)
@@ -149,13 +145,13 @@ pub(crate) fn add_formula(
         }
         Expr::Par { param, place } => add_value(alloc, text, parts, *param, *place),
         Expr::Un(op, a) => {
-            let pairs = pairs_round(unary_level(*op), 9, a.get());
+            let pairs = pairs_round(op.level() as u64, PREFIX_LEVEL as u64, a.get());
             begin_unary(text, *op, pairs)?;
             add_formula(alloc, text, parts, a.get())?;
             end_unary(text, *op, pairs)
         }
         Expr::Bin(op, a, b) => {
-            let level = binary_level(*op);
+            let level = op.level() as u64;
             let left = pairs_round(level, level, a.get());
             let right = pairs_round(level, level + 1, b.get());
             begin_binary(text, *op, left)?;

@@ -3,8 +3,6 @@
 
 mod formulas;
 mod lines;
-#[cfg(test)]
-mod tests;
 mod text;
 mod words;
 

@@ -1,5 +1,0 @@
-use Rattle.soda_checks.proofs.Outlines.{IsOutlined}
-use Rattle.soda_checks.proofs.gather.make_outline.Given as goal
-
-abbrev pub invariant-loop-statement : goal.invariant-loop-statement
-invariant-loop-statement l = IsOutlined l.outline l.statement-index l.statements
