@@ -1,6 +1,8 @@
 ghost use Rattle.std.specs.Prelude.{◌≡◌, ℕ, ◌+◌, ◌*◌, ◌<◌, ◌≤◌, ◌^◌, length, IfOk, OnOk};
 ghost use Rattle.std.specs.List.{All};
+ghost use Rattle.delay_net.specs.Limits.{most_tensors, most_reads};
 ghost use Rattle.delay_net.specs.Shape.{IsWidth};
+ghost use Rattle.bench_solve.specs.Limits.{most_each};
 ghost use Rattle.bench_solve.specs.Made.{IsReadBelow};
 
 use delay_net::{Net, NoMemory, Read};
@@ -32,17 +34,15 @@ fn widths(alloc: Global, tensors: u32) -> Result<Vec<u8>, NoMemory>
     let mut widths = Vec::new(alloc);
     for _ in 0..tensors {
         seed = next(seed);
-        let Ok(()) = widths.push((seed / 65536 % 64 + 1) as u8) else {
-            return Err(NoMemory);
-        };
+        widths.push(((seed >> 16) % 64 + 1) as u8)?;
     }
     Ok(widths)
 }
 
 // A read by a tensor, its place among the reads by it, and two numbers without order.
 fn read(kind: Kind, reader: u32, place: u32, of: u32, offset: u32) -> Read
-    requires reader { (0 < reader) × (reader < 512) }
-    requires place { place < 32 }
+    requires reader { (0 < reader) × (reader < most_tensors) }
+    requires place { place < most_each }
     ensures { (tensors : ℕ) → reader < tensors → IsReadBelow tensors result }
 {
     match kind {
@@ -67,8 +67,8 @@ fn add_reads(
     first: u32,
     reads: &mut Vec<Read>,
 ) -> Result<u32, NoMemory>
-    requires reader { (0 < reader) × (reader < 512) }
-    requires each { each ≤ 32 }
+    requires reader { (0 < reader) × (reader < most_tensors) }
+    requires each { each ≤ most_each }
     requires first { first < 2 ^ 31 }
     ensures next { IfOk result (λ next. next < 2 ^ 31) }
     ensures count { OnOk result (length reads.new.items ≡ length reads.old.items + each) }
@@ -79,18 +79,16 @@ fn add_reads(
     for place in 0..each {
         let of = next(seed);
         seed = next(of);
-        let Ok(()) = reads.push(read(kind, reader, place, of / 65536, seed / 64)) else {
-            return Err(NoMemory);
-        };
+        reads.push(read(kind, reader, place, of >> 16, seed >> 6))?;
     }
     Ok(seed)
 }
 
 // The reads of so many tensors, each but the first of which reads so many times.
 fn reads(alloc: Global, kind: Kind, tensors: u32, each: u32) -> Result<Vec<Read>, NoMemory>
-    requires tensors { tensors ≤ 512 }
-    requires each { each ≤ 32 }
-    ensures few { IfOk result (λ reads. length reads.items ≤ 16384) }
+    requires tensors { tensors ≤ most_tensors }
+    requires each { each ≤ most_each }
+    ensures few { IfOk result (λ reads. length reads.items ≤ most_reads) }
     ensures reads { IfOk result (λ reads. All (IsReadBelow tensors) reads.items) }
 {
     let mut seed = 1;
@@ -104,8 +102,8 @@ fn reads(alloc: Global, kind: Kind, tensors: u32, each: u32) -> Result<Vec<Read>
 /// A net of so many tensors, at most 512, each but the first of which reads so many times, at most
 /// 32. The only error is that memory ran out.
 pub fn made_net(alloc: Global, kind: Kind, tensors: u32, each: u32) -> Result<Net, NoMemory>
-    requires tensors { tensors ≤ 512 }
-    requires each { each ≤ 32 }
+    requires tensors { tensors ≤ most_tensors }
+    requires each { each ≤ most_each }
     ensures { IfOk result (λ net. length net.weights ≡ tensors) }
 {
     let widths = widths(alloc, tensors)?;

@@ -1,4 +1,4 @@
 mod Examples
-pub mod SumLemmas
-pub mod Duality
+pub mod CallerLemmas
+pub mod Filled
 pub mod Steps

@@ -1,27 +1,29 @@
 -- Storage and sums over the reads, one read on.
-use Rattle.std.proofs.Common.{◌≡◌, ◌⊎◌, ℕ, suc, ◌+◌, ◌<◌, ◌≤◌, false, cond, eqb, List, [], ◌∷◌, length, drop, get_or, set, max, refl, sym, ◌∙◌, ap, inl, inr, arith, ⊎_elim, eq-eqb, pos, negsuc, ℤ, neg_ℤ, ◌≤ℤ◌, ◌+ℤ◌, ◌*ℤ◌, ◌^◌, get_or-set_same, get_or-set_other, subst}
-use Rattle.std.specs.List.{All}
+use Rattle.std.proofs.Common.{◌≡◌, ℕ, suc, ◌+◌, ◌<◌, ◌≤◌, false, cond, eqb, List, ◌∷◌, length, drop, get_or, set, max, sym, ◌∙◌, ap, arith, ⊎_elim, eq-eqb, pos, negsuc, ℤ, neg_ℤ, ◌≤ℤ◌, ◌+ℤ◌, ◌*ℤ◌, ◌^◌, get_or-set_same, get_or-set_other}
 use Rattle.std.proofs.Math.Nat.{mul-le-mul}
 use Rattle.std.proofs.lemmas.Int.{ints}
-use Rattle.std.proofs.lemmas.Bool.{cases_eq, cases_lt}
+use Rattle.std.proofs.lemmas.Bool.{cases_eq}
 use Rattle.std.proofs.lemmas.Bool.Decides.{nat_tests}
 use Rattle.std.proofs.lemmas.List.{at_drop_more, drop_more, drop_all}
-use Rattle.std.proofs.lemmas.List.Elements.{All-nil, All-cons, All-weaker}
-use Rattle.delay_net.specs.Windows.{age, at_least_0, storage_of, IsAgeOfRead, IsGreatestAge}
+use Rattle.delay_net.specs.Limits.{most_offset}
+use Rattle.delay_net.specs.Windows.{age, at_least_0, storage_of}
 use Rattle.delay_net.specs.Certificate.{sum_at, sum_of_offsets}
 use Rattle.delay_net.specs.declared.net.Read.{Read}
 
 pub storage_step : (reads : List Read) (delays : List ℕ) (tensor i : ℕ) (d : Read) → i < length reads
     → storage_of (drop i reads) delays tensor
-    ≡ cond (eqb (get_or reads i d).of tensor) (max (at_least_0 (age delays (get_or reads i d))) (storage_of (drop (i + 1) reads) delays tensor)) (storage_of (drop (i + 1) reads) delays tensor)
+    ≡ cond (eqb (get_or reads i d).of tensor) (max (at_least_0 (age delays (get_or reads i d))) (storage_of (drop (i + 1) reads) delays tensor))
+    (storage_of (drop (i + 1) reads) delays tensor)
 unfolding storage_of
 storage_step reads delays tensor i d lt = at_drop_more (λ rs. storage_of rs delays tensor) reads i d lt
 
-taken_by_test : (of tensor a rest greatest whole step : ℕ) → of ≡ tensor → step ≡ cond (eqb of tensor) (max a rest) rest → max greatest step ≡ whole → max (max a greatest) rest ≡ whole
+taken_by_test : (of tensor a rest greatest whole step : ℕ) → of ≡ tensor → step ≡ cond (eqb of tensor) (max a rest) rest → max greatest step ≡ whole
+    → max (max a greatest) rest ≡ whole
 taken_by_test of tensor a rest greatest whole step is e h =
     let e' : step ≡ max a rest = rw (eq-eqb of tensor is) at e in omega arith
 
-passed_by_test : (of tensor a rest greatest whole step : ℕ) → (of ≡ tensor → ⊥) → step ≡ cond (eqb of tensor) (max a rest) rest → max greatest step ≡ whole → max greatest rest ≡ whole
+passed_by_test : (of tensor a rest greatest whole step : ℕ) → (of ≡ tensor → ⊥) → step ≡ cond (eqb of tensor) (max a rest) rest → max greatest step ≡ whole
+    → max greatest rest ≡ whole
 passed_by_test of tensor a rest greatest whole step other e h = grind (arith, nat_tests)
 
 -- a read of the tensor is counted
@@ -30,7 +32,8 @@ pub storage_taken : (reads : List Read) (delays : List ℕ) (tensor i greatest w
     → max greatest (storage_of (drop i reads) delays tensor) ≡ whole → max (max a greatest) (storage_of (drop (i + 1) reads) delays tensor) ≡ whole
 storage_taken reads delays tensor i greatest whole a d lt is old h =
     taken_by_test _ tensor a (storage_of (drop (i + 1) reads) delays tensor) greatest whole _ is
-    (storage_step reads delays tensor i d lt ∙ ap (λ z. cond (eqb (get_or reads i d).of tensor) (max (at_least_0 z) (storage_of (drop (i + 1) reads) delays tensor)) (storage_of (drop (i + 1) reads) delays tensor)) old) h
+    (storage_step reads delays tensor i d lt ∙ ap (λ z. cond (eqb (get_or reads i d).of tensor)
+    (max (at_least_0 z) (storage_of (drop (i + 1) reads) delays tensor)) (storage_of (drop (i + 1) reads) delays tensor)) old) h
 
 -- a read of another tensor is passed over
 pub storage_passed : (reads : List Read) (delays : List ℕ) (tensor i greatest whole : ℕ) (d : Read) → i < length reads
@@ -43,12 +46,14 @@ storage_passed reads delays tensor i greatest whole d lt other h =
 pub storage_each : (reads : List Read) (delays table : List ℕ) (i a tensor whole : ℕ) (d : Read) → i < length reads
     → (get_or reads i d).of < length table → age delays (get_or reads i d) ≡ pos a
     → max (get_or table tensor 0) (storage_of (drop i reads) delays tensor) ≡ whole
-    → max (get_or (set table (get_or reads i d).of (max a (get_or table (get_or reads i d).of 0))) tensor 0) (storage_of (drop (i + 1) reads) delays tensor) ≡ whole
+    → max (get_or (set table (get_or reads i d).of (max a (get_or table (get_or reads i d).of 0))) tensor 0) (storage_of (drop (i + 1) reads) delays tensor)
+    ≡ whole
 storage_each reads delays table i a tensor whole d lt in_table old h =
     let of = (get_or reads i d).of in
     let v = max a (get_or table of 0) in
     ⊎_elim
-    (λ is. ap (λ x. max x (storage_of (drop (i + 1) reads) delays tensor)) (ap (λ t. get_or (set table of v) t 0) (sym is) ∙ get_or-set_same table of v 0 in_table ∙ ap (λ t. max a (get_or table t 0)) is)
+    (λ is. ap (λ x. max x (storage_of (drop (i + 1) reads) delays tensor))
+    (ap (λ t. get_or (set table of v) t 0) (sym is) ∙ get_or-set_same table of v 0 in_table ∙ ap (λ t. max a (get_or table t 0)) is)
     ∙ storage_taken reads delays tensor i (get_or table tensor 0) whole a d lt is old h)
     (λ other. ap (λ x. max x (storage_of (drop (i + 1) reads) delays tensor)) (get_or-set_other table of tensor v 0 (λ e. other (sym e)))
     ∙ storage_passed reads delays tensor i (get_or table tensor 0) whole d lt other h)
@@ -61,7 +66,8 @@ storage_done reads delays tensor i greatest whole past h =
     let left : storage_of (drop i reads) delays tensor ≡ 0 = ap (λ rs. storage_of rs delays tensor) (drop_all i reads past) in omega arith
 
 pub sum_at_step : (key : Read → ℕ) (tensor : ℕ) (reads : List Read) (numbers : List ℕ) (i : ℕ) (d : Read) → i < length reads → i < length numbers
-    → sum_at key tensor (drop i reads) (drop i numbers) ≡ cond (eqb (key (get_or reads i d)) tensor) (get_or numbers i 0) 0 + sum_at key tensor (drop (i + 1) reads) (drop (i + 1) numbers)
+    → sum_at key tensor (drop i reads) (drop i numbers) ≡ cond (eqb (key (get_or reads i d)) tensor) (get_or numbers i 0) 0
+    + sum_at key tensor (drop (i + 1) reads) (drop (i + 1) numbers)
 unfolding sum_at
 sum_at_step key tensor reads numbers i d lt lt' =
     ap (λ rs. sum_at key tensor rs (drop i numbers)) (drop_more reads i d lt)
@@ -71,7 +77,8 @@ sum_at_step key tensor reads numbers i d lt lt' =
 pub sum_each : (key : Read → ℕ) (reads : List Read) (numbers table : List ℕ) (i tensor whole : ℕ) (d : Read) → i < length reads → i < length numbers
     → key (get_or reads i d) < length table
     → get_or table tensor 0 + sum_at key tensor (drop i reads) (drop i numbers) ≡ whole
-    → get_or (set table (key (get_or reads i d)) (get_or table (key (get_or reads i d)) 0 + get_or numbers i 0)) tensor 0 + sum_at key tensor (drop (i + 1) reads) (drop (i + 1) numbers) ≡ whole
+    → get_or (set table (key (get_or reads i d)) (get_or table (key (get_or reads i d)) 0 + get_or numbers i 0)) tensor 0
+    + sum_at key tensor (drop (i + 1) reads) (drop (i + 1) numbers) ≡ whole
 sum_each key reads numbers table i tensor whole d lt lt' in_table h =
     let at = key (get_or reads i d) in
     let v = get_or table at 0 + get_or numbers i 0 in
@@ -92,8 +99,10 @@ pub sum_each_small : (table : List ℕ) (at n tensor most : ℕ) → at < length
     → get_or (set table at (get_or table at 0 + n)) tensor 0 ≤ most + n
 sum_each_small table at n tensor most in_table h h' =
     ⊎_elim
-    (λ is. let there : get_or (set table at (get_or table at 0 + n)) tensor 0 ≡ get_or table at 0 + n = ap (λ t. get_or (set table at (get_or table at 0 + n)) t 0) (sym is) ∙ get_or-set_same table at _ 0 in_table in omega arith)
-    (λ other. let there : get_or (set table at (get_or table at 0 + n)) tensor 0 ≡ get_or table tensor 0 = get_or-set_other table at tensor _ 0 (λ e. other (sym e)) in omega arith)
+    (λ is. let there : get_or (set table at (get_or table at 0 + n)) tensor 0
+    ≡ get_or table at 0 + n = ap (λ t. get_or (set table at (get_or table at 0 + n)) t 0) (sym is) ∙ get_or-set_same table at _ 0 in_table in omega arith)
+    (λ other. let there : get_or (set table at (get_or table at 0 + n)) tensor 0
+    ≡ get_or table tensor 0 = get_or-set_other table at tensor _ 0 (λ e. other (sym e)) in omega arith)
     (cases_eq at tensor)
 
 pub sum_at_done : (key : Read → ℕ) (tensor : ℕ) (reads : List Read) (numbers : List ℕ) (i have whole : ℕ) → length reads ≤ i
@@ -102,66 +111,9 @@ unfolding sum_at
 sum_at_done key tensor reads numbers i have whole past h =
     let left : sum_at key tensor (drop i reads) (drop i numbers) ≡ 0 = ap (λ rs. sum_at key tensor rs (drop i numbers)) (drop_all i reads past) in omega arith
 
-older : (z : ℤ) (n : ℕ) → at_least_0 z ≤ n → z ≤ℤ pos n
-older (pos m) n h = omega (arith, ints)
-older (negsuc m) n h = omega (arith, ints)
-
-some_age : (z : ℤ) (n : ℕ) → at_least_0 z ≡ n → (n ≡ 0 → ⊥) → z ≡ pos n
-some_age (pos m) n h not_0 = ap pos h
-some_age (negsuc m) n h not_0 = absurd (not_0 (sym h))
-
-abbrev OlderThan : List ℕ → ℕ → ℕ → Read → Type 0
-OlderThan delays tensor cells read = read.of ≡ tensor → age delays read ≤ℤ pos cells
-
-up_to_more : (delays : List ℕ) (tensor less more : ℕ) (reads : List Read) → less ≤ more → All (OlderThan delays tensor less) reads → All (OlderThan delays tensor more) reads
-up_to_more delays tensor less more reads h all =
-    All-weaker (OlderThan delays tensor less) (OlderThan delays tensor more) (λ r old of. let bound = old of in omega (arith, ints)) reads all
-
-age_later : (r : Read) (reads : List Read) (delays : List ℕ) (tensor cells : ℕ) → (cells ≡ 0) ⊎ IsAgeOfRead reads delays tensor cells → (cells ≡ 0) ⊎ IsAgeOfRead (r ∷ reads) delays tensor cells
-age_later r reads delays tensor cells (inl none) = inl none
-age_later r reads delays tensor cells (inr some) = inr (some.0, (suc some.1.0, omega (arith, some.1.1), some.1.2), some.2, some.3)
-
-age_first : (r : Read) (reads : List Read) (delays : List ℕ) (tensor cells : ℕ) → r.of ≡ tensor → at_least_0 (age delays r) ≡ cells → (cells ≡ 0) ⊎ IsAgeOfRead (r ∷ reads) delays tensor cells
-age_first r reads delays tensor cells of old =
-    ⊎_elim (λ none. inl none) (λ some. inr (r, (0, omega arith, refl), of, some_age (age delays r) cells old some)) (cases_eq cells 0)
-
-greatest_more : (r : Read) (reads : List Read) (delays : List ℕ) (tensor rest : ℕ) → IsGreatestAge reads delays tensor rest
-    → IsGreatestAge (r ∷ reads) delays tensor (cond (eqb r.of tensor) (max (at_least_0 (age delays r)) rest) rest)
-greatest_more r reads delays tensor rest later =
-    ⊎_elim
-    (λ of. subst (IsGreatestAge (r ∷ reads) delays tensor) (sym (here of)) (record {
-      bound = All-cons (OlderThan delays tensor (max a rest)) r reads (λ _. older (age delays r) (max a rest) (omega arith)) (up_to_more delays tensor rest (max a rest) reads (omega arith) later.bound);
-      reached = ⊎_elim
-          (λ lt. subst (λ n. (n ≡ 0) ⊎ IsAgeOfRead (r ∷ reads) delays tensor n) (greater lt) (age_later r reads delays tensor rest later.reached))
-          (λ le. age_first r reads delays tensor (max a rest) of (omega arith))
-          (cases_lt a rest);
-    }))
-    (λ other. subst (IsGreatestAge (r ∷ reads) delays tensor) (sym (elsewhere other)) (record {
-      bound = All-cons (OlderThan delays tensor rest) r reads (λ of. absurd (other of)) later.bound;
-      reached = age_later r reads delays tensor rest later.reached;
-    }))
-    (cases_eq r.of tensor)
-  where
-    a : ℕ
-    a = at_least_0 (age delays r)
-
-    here : r.of ≡ tensor → cond (eqb r.of tensor) (max a rest) rest ≡ max a rest
-    here of = rw (eq-eqb r.of tensor of) refl
-
-    elsewhere : (r.of ≡ tensor → ⊥) → cond (eqb r.of tensor) (max a rest) rest ≡ rest
-    elsewhere other = grind (arith, nat_tests)
-
-    greater : a < rest → rest ≡ max a rest
-    greater lt = omega arith
-
--- the storage is a greatest age
-pub storage_of_is : (reads : List Read) (delays : List ℕ) (tensor : ℕ) → IsGreatestAge reads delays tensor (storage_of reads delays tensor)
-unfolding storage_of
-storage_of_is [] delays tensor = record { bound = All-nil (OlderThan delays tensor 0); reached = inl refl }
-storage_of_is (r ∷ reads) delays tensor = greatest_more r reads delays tensor _ (storage_of_is reads delays tensor)
-
 pub sum_of_offsets_step : (reads : List Read) (numbers : List ℕ) (i : ℕ) (d : Read) → i < length reads → i < length numbers
-    → sum_of_offsets (drop i reads) (drop i numbers) ≡ (pos (get_or numbers i 0) *ℤ (get_or reads i d).offset) +ℤ sum_of_offsets (drop (i + 1) reads) (drop (i + 1) numbers)
+    → sum_of_offsets (drop i reads) (drop i numbers) ≡ (pos (get_or numbers i 0) *ℤ (get_or reads i d).offset)
+    +ℤ sum_of_offsets (drop (i + 1) reads) (drop (i + 1) numbers)
 unfolding sum_of_offsets
 sum_of_offsets_step reads numbers i d lt lt' =
     ap (λ rs. sum_of_offsets rs (drop i numbers)) (drop_more reads i d lt)
@@ -172,15 +124,15 @@ unfolding sum_of_offsets
 sum_of_offsets_done reads numbers i past = ap (λ rs. sum_of_offsets rs (drop i numbers)) (drop_all i reads past)
 
 -- a number times a small offset is small
-pub product_within : (n : ℕ) (z : ℤ) → n < 2 ^ 32 → neg_ℤ (pos (2 ^ 42)) ≤ℤ z → z ≤ℤ pos (2 ^ 42)
+pub product_within : (n : ℕ) (z : ℤ) → n < 2 ^ 32 → neg_ℤ (pos most_offset) ≤ℤ z → z ≤ℤ pos most_offset
     → (neg_ℤ (pos (2 ^ 74)) ≤ℤ (pos n *ℤ z)) × ((pos n *ℤ z) ≤ℤ pos (2 ^ 74))
 product_within n (pos k) small from to =
     let factor : n ≤ 2 ^ 32 = omega arith in
-    let offset : k ≤ 2 ^ 42 = omega (arith, ints) in
+    let offset : k ≤ most_offset = omega (arith, ints) in
     let product = mul-le-mul factor offset in
     (omega (arith, ints), omega (arith, ints))
 product_within n (negsuc k) small from to =
     let factor : n ≤ 2 ^ 32 = omega arith in
-    let offset : suc k ≤ 2 ^ 42 = omega (arith, ints) in
+    let offset : suc k ≤ most_offset = omega (arith, ints) in
     let product = mul-le-mul factor offset in
     (omega (arith, ints), omega (arith, ints))

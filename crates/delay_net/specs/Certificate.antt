@@ -30,13 +30,16 @@ width_if_read weights reads tensor = if is_read reads tensor then slice_index we
 -- the holds of the reads of each tensor that is read sum to its width
 abbrev pub FillsWidths : List ℕ → List Read → List ℕ → Type 0
 FillsWidths weights reads hold =
-    (tensor : ℕ) → tensor < length weights → IsTrue (is_read reads tensor) → sum_read tensor reads hold ≡ slice_index weights tensor
+    (tensor : ℕ) → tensor < length weights → IsTrue (is_read reads tensor)
+    → sum_read tensor reads hold ≡ slice_index weights tensor
 
--- at each tensor, the holds where it reads and the needs where it is read equal the needs where it reads and its width, if it is read
+-- at each tensor, the holds where it reads and the needs where it is read equal the needs where it reads and its width,
+-- if it is read
 abbrev pub IsEven : List ℕ → List Read → List ℕ → List ℕ → Type 0
 IsEven weights reads hold need =
     (tensor : ℕ) → tensor < length weights
-    → sum_reading tensor reads hold + sum_read tensor reads need ≡ sum_reading tensor reads need + width_if_read weights reads tensor
+    → sum_reading tensor reads hold + sum_read tensor reads need
+    ≡ sum_reading tensor reads need + width_if_read weights reads tensor
 
 -- a balanced certificate: both hold
 pub record IsBalanced (weights : List ℕ) (reads : List Read) (hold need : List ℕ) : Type 0 where

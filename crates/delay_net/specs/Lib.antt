@@ -1,5 +1,6 @@
+pub mod Limits
 pub mod Sums
 pub mod Shape
 pub mod Windows
 pub mod Certificate
-pub mod End
+pub mod pieces

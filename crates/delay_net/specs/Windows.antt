@@ -1,6 +1,7 @@
 -- Delay assignments, which give each tensor a whole number of at least 0; windows, ages and storage.
-use Rattle.std.specs.Prelude.{◌≡◌, ◌==◌, ℕ, ◌*◌, ◌^◌, ◌<◌, ◌≤◌, ◌⊎◌, ℤ, pos, negsuc, ◌+ℤ◌, ◌-ℤ◌, ◌≤ℤ◌, List, [], ◌∷◌, length, slice_index, max, if◌then◌else◌}
+use Rattle.std.specs.Prelude.{◌≡◌, ◌==◌, ℕ, ◌*◌, ◌<◌, ◌≤◌, ◌⊎◌, ℤ, pos, negsuc, ◌+ℤ◌, ◌-ℤ◌, ◌≤ℤ◌, List, [], ◌∷◌, length, slice_index, max, if◌then◌else◌}
 use Rattle.std.specs.List.{All, Contains}
+use Rattle.delay_net.specs.Limits.{delay_end}
 use Rattle.delay_net.specs.Sums.{sum_below}
 use Rattle.delay_net.specs.declared.net.Read.{Read}
 
@@ -10,7 +11,7 @@ IsAssignment weights delays = length delays ≡ length weights
 
 -- each delay is below 2 ^ 62
 abbrev pub HasShortDelays : List ℕ → Type 0
-HasShortDelays delays = All (λ delay. delay < 2 ^ 62) delays
+HasShortDelays delays = All (λ delay. delay < delay_end) delays
 
 -- the reader is at least as late as what it reads, moved by the offset
 abbrev pub MeetsWindow : List ℕ → Read → Type 0
@@ -34,7 +35,8 @@ at_least_0 (negsuc n) = 0
 unfoldable pub storage_of : List Read → List ℕ → ℕ → ℕ
 storage_of [] delays tensor = 0
 storage_of (read ∷ reads) delays tensor =
-    if read.of == tensor then max (at_least_0 (age delays read)) (storage_of reads delays tensor) else storage_of reads delays tensor
+    if read.of == tensor then max (at_least_0 (age delays read)) (storage_of reads delays tensor)
+    else storage_of reads delays tensor
 
 -- the total storage in bits: over the tensors, width times storage
 unfoldable pub total_storage : List ℕ → List Read → List ℕ → ℕ
@@ -54,4 +56,5 @@ pub record IsGreatestAge (reads : List Read) (delays : List ℕ) (tensor cells :
 -- no assignment that meets the windows has less storage
 abbrev pub IsLeastStorage : List ℕ → List Read → ℕ → Type 0
 IsLeastStorage weights reads bits =
-    (others : List ℕ) → IsAssignment weights others → MeetsWindows reads others → bits ≤ total_storage weights reads others
+    (others : List ℕ) → IsAssignment weights others → MeetsWindows reads others
+    → bits ≤ total_storage weights reads others

@@ -1,12 +1,13 @@
 ghost use Rattle.std.specs.Prelude.{◌≡◌, ℕ, ◌+◌, ◌<◌, ◌≤◌, ◌^◌, ◌↔◌, pos, neg_ℤ, ◌*ℤ◌, ◌≤ℤ◌, length, slice_index, IsTrue};
 ghost use Rattle.std.specs.List.{All};
+ghost use Rattle.delay_net.specs.Limits.{most_tensors, most_reads, most_offset};
 ghost use Rattle.delay_net.specs.Shape.{IsNet, HasSmallOffset};
 ghost use Rattle.delay_net.specs.Windows.{IsAssignment, HasShortDelays, MeetsWindows, IsLeastStorage, total_storage};
 ghost use Rattle.delay_net.specs.Certificate.{sum_at, FillsWidths, IsEven, IsBalanced, sum_of_offsets, value_of, Fits};
-ghost use Rattle.delay_net.specs.End.{tensor_at};
+ghost use Rattle.delay_net.specs.pieces.End.{tensor_at};
 
 use crate::storing::storage;
-use crate::{Flow, Net, Read};
+use crate::{Flow, MOST_TENSORS, Net, Read};
 
 // The two tensors of a read.
 #[derive(Clone, Copy)]
@@ -27,14 +28,14 @@ impl End {
 }
 
 // At each tensor, the numbers of the reads that have it at this end, added up.
-fn sums(net: &Net, numbers: &[u32], end: End) -> [u64; 512]
+fn sums(net: &Net, numbers: &[u32], end: End) -> [u64; MOST_TENSORS]
     requires { length numbers.now ≡ length net.now.reads }
-    ensures sums { (tensor : ℕ) → tensor < 512
+    ensures sums { (tensor : ℕ) → tensor < most_tensors
         → slice_index result tensor ≡ sum_at (tensor_at end) tensor net.now.reads numbers.now }
-    ensures small { (tensor : ℕ) → tensor < 512 → slice_index result tensor ≤ 2 ^ 46 }
+    ensures small { (tensor : ℕ) → tensor < most_tensors → slice_index result tensor ≤ 2 ^ 46 }
 {
     let reads = net.reads();
-    let mut sums = [0; 512];
+    let mut sums = [0; MOST_TENSORS];
     for (i, read) in reads.iter().enumerate() {
         sums[end.tensor(read) as usize] += numbers[i] as u64;
     }
@@ -91,8 +92,8 @@ pub fn is_balanced(net: &Net, hold: &[u32], need: &[u32]) -> bool
 
 // A number times an offset.
 fn product(number: u32, offset: i64) -> i128
-    requires from { neg_ℤ (pos (2 ^ 42)) ≤ℤ offset }
-    requires to { offset ≤ℤ pos (2 ^ 42) }
+    requires from { neg_ℤ (pos most_offset) ≤ℤ offset }
+    requires to { offset ≤ℤ pos most_offset }
     ensures value { result ≡ pos number *ℤ offset }
     ensures low { neg_ℤ (pos (2 ^ 74)) ≤ℤ result }
     ensures high { result ≤ℤ pos (2 ^ 74) }
@@ -103,7 +104,7 @@ fn product(number: u32, offset: i64) -> i128
 // Over the reads, number times offset.
 fn sum_of_offsets(reads: &[Read], numbers: &[u32]) -> i128
     requires offsets { All HasSmallOffset reads.now }
-    requires few { length reads.now ≤ 16384 }
+    requires few { length reads.now ≤ most_reads }
     requires one_each { length numbers.now ≡ length reads.now }
     ensures value { result ≡ sum_of_offsets reads.now numbers.now }
     ensures low { neg_ℤ (pos (2 ^ 88)) ≤ℤ result }
@@ -119,7 +120,7 @@ fn sum_of_offsets(reads: &[Read], numbers: &[u32]) -> i128
 // The value of a certificate.
 fn value(reads: &[Read], hold: &[u32], need: &[u32]) -> i128
     requires offsets { All HasSmallOffset reads.now }
-    requires few { length reads.now ≤ 16384 }
+    requires few { length reads.now ≤ most_reads }
     requires holds { length hold.now ≡ length reads.now }
     requires needs { length need.now ≡ length reads.now }
     ensures { result ≡ value_of reads.now hold.now need.now }

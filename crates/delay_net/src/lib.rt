@@ -4,15 +4,16 @@
 
 mod certificate;
 mod flow;
+mod limits;
 mod net;
 mod storing;
 mod timing;
 
 pub use certificate::{check, is_balanced};
 pub use flow::{Amounts, Flow};
-pub use net::{Net, NoMemory, Read};
+pub use limits::{DELAY_END, MOST_BITS, MOST_OFFSET, MOST_READS, MOST_TENSORS};
+pub use net::{Net, Read};
+/// Want of memory.
+pub use std::alloc::AllocError as NoMemory;
 pub use storing::{storage, storage_of};
 pub use timing::meets;
-
-#[cfg(test)]
-mod tests;

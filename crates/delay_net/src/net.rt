@@ -1,17 +1,12 @@
 ghost use Rattle.std.specs.Prelude.{◌≡◌, IfOk};
 ghost use Rattle.delay_net.specs.Shape.{IsNet};
 
+use crate::NoMemory;
 use std::alloc::Global;
 use std::marker::Model;
-use thiserror::Error;
-
-/// Memory ran out.
-#[derive(Clone, Copy, Debug, PartialEq, Eq, Error)]
-#[error("out of memory")]
-pub struct NoMemory;
 
 /// One read of a tensor by a later one, at a constant offset.
-#[derive(Clone, Copy, Debug, PartialEq, Eq)]
+#[derive(Clone, Copy)]
 pub struct Read {
     /// The number of the tensor that reads.
     pub reader: u32,
@@ -47,12 +42,8 @@ impl Net {
         ensures weights { IfOk result (λ net. net.weights ≡ weights.now) }
         ensures reads { IfOk result (λ net. net.reads ≡ reads.now) }
     {
-        let Ok(weights) = Vec::from_slice(alloc, weights) else {
-            return Err(NoMemory);
-        };
-        let Ok(reads) = Vec::from_slice(alloc, reads) else {
-            return Err(NoMemory);
-        };
+        let weights = Vec::from_slice(alloc, weights)?;
+        let reads = Vec::from_slice(alloc, reads)?;
         Ok(Net { weights, reads })
     }
 

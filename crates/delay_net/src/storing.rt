@@ -1,8 +1,9 @@
 ghost use Rattle.std.specs.Prelude.{◌≡◌, ℕ, ◌<◌, length, slice_index};
+ghost use Rattle.delay_net.specs.Limits.{most_tensors};
 ghost use Rattle.delay_net.specs.Windows.{IsAssignment, HasShortDelays, MeetsWindows, IsGreatestAge, storage_of, total_storage};
 
 use crate::timing::age_of;
-use crate::{Net, Read};
+use crate::{MOST_TENSORS, Net};
 
 /// The storage of a tensor in cells: the greatest age of its reads, 0 where it isn't read.
 pub fn storage_of(net: &Net, delays: &[u64], tensor: u32) -> u64
@@ -23,14 +24,14 @@ pub fn storage_of(net: &Net, delays: &[u64], tensor: u32) -> u64
 }
 
 // The storage of each tensor in cells.
-fn storage_of_each(net: &Net, delays: &[u64]) -> [u64; 512]
+fn storage_of_each(net: &Net, delays: &[u64]) -> [u64; MOST_TENSORS]
     requires assignment { IsAssignment net.now.weights delays.now }
     requires delays { HasShortDelays delays.now }
     requires meets { MeetsWindows net.now.reads delays.now }
-    ensures { (tensor : ℕ) → tensor < 512
+    ensures { (tensor : ℕ) → tensor < most_tensors
         → slice_index result tensor ≡ storage_of net.now.reads delays.now tensor }
 {
-    let mut greatest = [0; 512];
+    let mut greatest = [0; MOST_TENSORS];
     for read in net.reads() {
         let of = read.of as usize;
         greatest[of] = age_of(*read, delays).max(greatest[of]);

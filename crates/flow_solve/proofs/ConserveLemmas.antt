@@ -10,15 +10,9 @@ use Rattle.delay_net.specs.Sums.{sum_below}
 use Rattle.delay_net.specs.Shape.{IsInOrder, IsNet}
 use Rattle.delay_net.specs.Certificate.{sum_at, sum_read, sum_reading, is_read, width_if_read, IsBalanced, sum_of_offsets}
 use Rattle.delay_net.specs.declared.net.Read.{Read}
-use Rattle.delay_net.proofs.SumLemmas.{sum_below_up_to, sum_below_same, sum_below_weighed, sum_below_sum_at, sum_below_one, dot}
-use Rattle.delay_net.proofs.Duality.{sum_read_is}
-use Rattle.flow_solve.specs.Conserve.{weighed, supplied, comes_in, goes_out}
-
-weighed_is_dot : (f : Read → ℕ) (reads : List Read) (numbers : List ℕ) → weighed f reads numbers ≡ dot f reads numbers
-unfolding weighed dot
-weighed_is_dot f [] numbers = refl
-weighed_is_dot f (r ∷ reads) [] = refl
-weighed_is_dot f (r ∷ reads) (n ∷ numbers) = ap (λ x. n * f r + x) (weighed_is_dot f reads numbers)
+use Rattle.delay_net.proofs.CallerLemmas.{sum_below_up_to, sum_below_same, sum_below_weighed, sum_below_sum_at, sum_below_one, sum_read_is}
+use Rattle.delay_net.specs.pieces.Weighed.{weighed}
+use Rattle.flow_solve.specs.machine.Conserve.{supplied, comes_in, goes_out}
 
 -- a number raised, and a number lowered
 pub weighed_raised : (f : Read → ℕ) (reads : List Read) (numbers : List ℕ) (i : ℕ) (d : Read) → i < length reads → i < length numbers
@@ -68,16 +62,19 @@ pub conserves : (weights : List ℕ) (reads : List Read) (hold need : List ℕ) 
     → (e s : ℕ → ℕ) → comes_in weights reads hold need e s ≡ goes_out weights reads hold need e s
 conserves weights reads hold need order balanced = λ e s.
     let n = length weights in
-    let of_in : AllByRecursion (λ r. r.of < n) reads = recursion_from_All _ reads (All-weaker (IsInOrder weights) (λ r. r.of < n) (λ r h. omega (arith, h.0, h.1)) reads order) in
-    let reader_in : AllByRecursion (λ r. r.reader < n) reads = recursion_from_All _ reads (All-weaker (IsInOrder weights) (λ r. r.reader < n) (λ r h. h.1) reads order) in
+    let of_in : AllByRecursion (λ r. r.of < n) reads = recursion_from_All _ reads
+    (All-weaker (IsInOrder weights) (λ r. r.of < n) (λ r h. omega (arith, h.0, h.1)) reads order) in
+    let reader_in : AllByRecursion (λ r. r.reader < n) reads = recursion_from_All _ reads
+    (All-weaker (IsInOrder weights) (λ r. r.reader < n) (λ r h. h.1) reads order) in
     let held : (t : ℕ) → t < n → sum_read t reads hold ≡ width_if_read weights reads t = λ t lt. sum_read_is weights reads hold t (balanced.held t lt) in
-    let swapped = sum_below_weighed n e (λ t. sum_reading t reads hold) (λ t. sum_read t reads need) (λ t. sum_reading t reads need) (λ t. width_if_read weights reads t) balanced.even in
+    let swapped = sum_below_weighed n e (λ t. sum_reading t reads hold) (λ t. sum_read t reads need) (λ t. sum_reading t reads need)
+    (λ t. width_if_read weights reads t) balanced.even in
     let filled = sum_below_same n (λ t. s t * sum_read t reads hold) (λ t. s t * width_if_read weights reads t) (λ t lt. ap (λ x. s t * x) (held t lt)) in
     let a = sum_below_sum_at n e (λ r. r.reader) reads hold reader_in in
     let b = sum_below_sum_at n e (λ r. r.reader) reads need reader_in in
     let c = sum_below_sum_at n e (λ r. r.of) reads need of_in in
     let f = sum_below_sum_at n s (λ r. r.of) reads hold of_in in
-    omega (arith, weighed_is_dot (λ r. e r.reader) reads hold, weighed_is_dot (λ r. e r.reader) reads need, weighed_is_dot (λ r. e r.of) reads need, weighed_is_dot (λ r. s r.of) reads hold)
+    omega arith
 
 -- 1 at one tensor
 abbrev one_at : ℕ → ℕ → ℕ
@@ -129,14 +126,35 @@ pub balanced_from : (weights : List ℕ) (reads : List Read) (hold need : List �
 balanced_from weights reads hold need keeps = record {
   held = λ t lt is.
       let here = keeps (λ u. 0) (one_at t) in
-      omega (arith, here, weighed_zero reads need, weighed_zero reads hold, weighed_one (λ r. r.of) t reads hold, sum_below_0 (length weights) (width_if_read weights reads), supplied_one weights reads t lt, if_read (is_read reads t) (slice_index weights t) is);
+      omega (
+        arith,
+        here,
+        weighed_zero reads need,
+        weighed_zero reads hold,
+        weighed_one (λ r. r.of) t reads hold,
+        sum_below_0 (length weights)
+            (width_if_read weights reads),
+        supplied_one weights reads t lt,
+        if_read (is_read reads t) (slice_index weights t) is,
+      );
   even = λ t lt.
       let here = keeps (one_at t) (λ u. 0) in
-      omega (arith, here, weighed_zero reads hold, weighed_one (λ r. r.reader) t reads need, weighed_one (λ r. r.of) t reads need, weighed_one (λ r. r.reader) t reads hold, sum_below_0 (length weights) (width_if_read weights reads), supplied_one weights reads t lt);
+      omega (
+        arith,
+        here,
+        weighed_zero reads hold,
+        weighed_one (λ r. r.reader) t reads need,
+        weighed_one (λ r. r.of) t reads need,
+        weighed_one
+            (λ r. r.reader) t reads hold,
+        sum_below_0 (length weights) (width_if_read weights reads),
+        supplied_one weights reads t lt,
+      );
 }
 
 -- a number is within the weighed sum, where its weight is 1
-weighed_member : (f : Read → ℕ) (reads : List Read) (numbers : List ℕ) (i : ℕ) (d : Read) → i < length reads → i < length numbers → f (get_or reads i d) ≡ 1 → get_or numbers i 0 ≤ weighed f reads numbers
+weighed_member : (f : Read → ℕ) (reads : List Read) (numbers : List ℕ) (i : ℕ) (d : Read) → i < length reads → i < length numbers → f (get_or reads i d) ≡ 1
+    → get_or numbers i 0 ≤ weighed f reads numbers
 unfolding weighed
 weighed_member f [] numbers i d lt lt' one = absurd (omega arith)
 weighed_member f (r ∷ reads) [] i d lt lt' one = absurd (omega arith)
@@ -159,7 +177,8 @@ falls k weights (r ∷ reads) (n ∷ numbers) order =
     omega (arith, mul-le-mul (le_refl n) (up_to_falls k r.of r.reader (omega (arith, order.0.0))), falls k weights reads numbers order.1)
 
 -- what crosses a cut is at least each number that crosses it
-crossing : (k : ℕ) (weights : List ℕ) (reads : List Read) (numbers : List ℕ) (i : ℕ) (d : Read) → AllByRecursion (IsInOrder weights) reads → i < length reads → i < length numbers
+crossing : (k : ℕ) (weights : List ℕ) (reads : List Read) (numbers : List ℕ) (i : ℕ) (d : Read) → AllByRecursion (IsInOrder weights) reads → i < length reads
+    → i < length numbers
     → (get_or reads i d).of ≤ k → k < (get_or reads i d).reader
     → get_or numbers i 0 + weighed (λ r. up_to k r.reader) reads numbers ≤ weighed (λ r. up_to k r.of) reads numbers
 unfolding weighed
@@ -170,7 +189,12 @@ crossing k weights (r ∷ reads) (n ∷ numbers) zero d order lt lt' of reader =
     let none : up_to k r.reader ≡ 0 = grind (arith, nat_tests) in
     omega (arith, ap (λ x. n * x) one, ap (λ x. n * x) none, falls k weights reads numbers order.1)
 crossing k weights (r ∷ reads) (n ∷ numbers) (suc i) d order lt lt' of reader =
-    omega (arith, mul-le-mul (le_refl n) (up_to_falls k r.of r.reader (omega (arith, order.0.0))), crossing k weights reads numbers i d order.1 (omega arith) (omega arith) of reader)
+    omega (
+      arith,
+      mul-le-mul (le_refl n) (up_to_falls k r.of r.reader (omega (arith, order.0.0))),
+      crossing k weights reads numbers i d order.1 (omega arith)
+          (omega arith) of reader,
+    )
 
 width_small : (weights : List ℕ) (reads : List Read) (t : ℕ) → IsNet weights reads → t < length weights → width_if_read weights reads t ≤ 64
 width_small weights reads t net lt = by_test (is_read reads t) (slice_index weights t) (net.widths t 0 lt).1
@@ -195,7 +219,8 @@ supply_small k weights reads net =
     term false w h = omega arith
 
 -- no number of a balanced certificate is large
-pub need_small : (weights : List ℕ) (reads : List Read) (hold need : List ℕ) (i : ℕ) → IsNet weights reads → IsBalanced weights reads hold need → i < length reads → i < length need → get_or need i 0 ≤ 2 ^ 15
+pub need_small : (weights : List ℕ) (reads : List Read) (hold need : List ℕ) (i : ℕ) → IsNet weights reads → IsBalanced weights reads hold need
+    → i < length reads → i < length need → get_or need i 0 ≤ 2 ^ 15
 need_small weights reads hold need i net balanced lt lt' =
     let d : Read = record { reader = 0; of = 0; offset = pos 0 } in
     let r = get_or reads i d in
@@ -204,7 +229,8 @@ need_small weights reads hold need i net balanced lt lt' =
     let cross = crossing r.of weights reads need i d (recursion_from_All (IsInOrder weights) reads net.order) lt lt' (omega arith) (omega (arith, order.0)) in
     omega (arith, cut, cross, weighed_zero reads hold, sum_below_0 (length weights) (width_if_read weights reads), supply_small r.of weights reads net)
 
-pub hold_small : (weights : List ℕ) (reads : List Read) (hold need : List ℕ) (i : ℕ) → IsNet weights reads → IsBalanced weights reads hold need → i < length reads → i < length hold → get_or hold i 0 ≤ 2 ^ 15
+pub hold_small : (weights : List ℕ) (reads : List Read) (hold need : List ℕ) (i : ℕ) → IsNet weights reads → IsBalanced weights reads hold need
+    → i < length reads → i < length hold → get_or hold i 0 ≤ 2 ^ 15
 hold_small weights reads hold need i net balanced lt lt' =
     let d : Read = record { reader = 0; of = 0; offset = pos 0 } in
     let r = get_or reads i d in
@@ -212,4 +238,11 @@ hold_small weights reads hold need i net balanced lt lt' =
     let in_range : r.of < length weights = omega (arith, order.0, order.1) in
     let one : one_at r.of r.of ≡ 1 = grind (arith, nat_tests) in
     let member = weighed_member (λ q. one_at r.of q.of) reads hold i d lt lt' one in
-    omega (arith, member, weighed_one (λ q. q.of) r.of reads hold, sum_read_is weights reads hold r.of (balanced.held r.of in_range), width_small weights reads r.of net in_range)
+    omega (
+      arith,
+      member,
+      weighed_one (λ q. q.of) r.of reads hold,
+      sum_read_is weights reads hold r.of
+          (balanced.held r.of in_range),
+      width_small weights reads r.of net in_range,
+    )

@@ -6,8 +6,7 @@ use Rattle.std.proofs.Math.Nat.{mul-le-mul_left}
 use Rattle.delay_net.specs.Sums.{sum_below}
 use Rattle.delay_net.specs.Windows.{MeetsWindows, age, storage_of, total_storage}
 use Rattle.delay_net.specs.declared.net.Read.{Read}
-use Rattle.delay_net.proofs.SumLemmas.{sum_below_up_to, sum_below-add}
-use Rattle.delay_net.proofs.Steps.{storage_of_is}
+use Rattle.delay_net.proofs.CallerLemmas.{sum_below_up_to, sum_below-add, storage_of_is}
 use Rattle.flow_solve.specs.LeastPlan.{HasLeastStorage, lesser_delays}
 
 -- the pointwise greatest of two assignments
@@ -70,7 +69,8 @@ storage_within reads delays t cells bound =
 abbrev reach : List Read → List ℕ → ℕ → ℕ
 reach reads delays t = slice_index delays t + storage_of reads delays t
 
-lesser_storage : (reads : List Read) (a b : List ℕ) (t : ℕ) → storage_of reads (lesser_delays a b) t + slice_index (lesser_delays a b) t ≤ min (reach reads a t) (reach reads b t)
+lesser_storage : (reads : List Read) (a b : List ℕ) (t : ℕ)
+    → storage_of reads (lesser_delays a b) t + slice_index (lesser_delays a b) t ≤ min (reach reads a t) (reach reads b t)
 lesser_storage reads a b t =
     let lo = lesser_delays a b in
     let here = lesser_at a b t in
@@ -82,7 +82,8 @@ lesser_storage reads a b t =
     omega (arith, ints, ap (slice_index lo) of_t, ap (slice_index a) of_t, ap (slice_index b) of_t)) in
     omega arith
 
-greater_storage : (reads : List Read) (a b : List ℕ) (t : ℕ) → storage_of reads (greater_delays a b) t + slice_index (greater_delays a b) t ≤ max (reach reads a t) (reach reads b t)
+greater_storage : (reads : List Read) (a b : List ℕ) (t : ℕ)
+    → storage_of reads (greater_delays a b) t + slice_index (greater_delays a b) t ≤ max (reach reads a t) (reach reads b t)
 greater_storage reads a b t =
     let hi = greater_delays a b in
     let here = greater_at a b t in
@@ -95,11 +96,13 @@ greater_storage reads a b t =
     omega arith
 
 -- the least and the greatest together need no more than the two
-both_storages : (reads : List Read) (a b : List ℕ) (t : ℕ) → storage_of reads (lesser_delays a b) t + storage_of reads (greater_delays a b) t ≤ storage_of reads a t + storage_of reads b t
+both_storages : (reads : List Read) (a b : List ℕ) (t : ℕ)
+    → storage_of reads (lesser_delays a b) t + storage_of reads (greater_delays a b) t ≤ storage_of reads a t + storage_of reads b t
 both_storages reads a b t = omega (arith, lesser_storage reads a b t, greater_storage reads a b t, lesser_at a b t, greater_at a b t)
 
 both_totals : (weights : List ℕ) (reads : List Read) (a b : List ℕ)
-    → total_storage weights reads (lesser_delays a b) + total_storage weights reads (greater_delays a b) ≤ total_storage weights reads a + total_storage weights reads b
+    → total_storage weights reads (lesser_delays a b) + total_storage weights reads (greater_delays a b)
+    ≤ total_storage weights reads a + total_storage weights reads b
 unfolding total_storage
 both_totals weights reads a b =
     let n = length weights in
@@ -112,10 +115,12 @@ both_totals weights reads a b =
     = sum_below_up_to n _ _ (λ t lt. omega (arith, mul-le-mul_left (w t) (both_storages reads a b t))) in
     omega (arith, sum_below-add n (λ t. w t * lo t) (λ t. w t * hi t), sum_below-add n (λ t. w t * in_a t) (λ t. w t * in_b t))
 
-pub lesser_is_least : (weights : List ℕ) (reads : List Read) (a b : List ℕ) → HasLeastStorage weights reads a → HasLeastStorage weights reads b → HasLeastStorage weights reads (lesser_delays a b)
+pub lesser_is_least : (weights : List ℕ) (reads : List Read) (a b : List ℕ) → HasLeastStorage weights reads a → HasLeastStorage weights reads b
+    → HasLeastStorage weights reads (lesser_delays a b)
 lesser_is_least weights reads a b least_a least_b =
     let same : length a ≡ length b = omega (arith, least_a.assignment, least_b.assignment) in
-    let above = least_a.least (greater_delays a b) (omega (arith, length-greater a b same, least_a.assignment)) (greater_meets reads a b least_a.meets least_b.meets) in
+    let above = least_a.least (greater_delays a b) (omega (arith, length-greater a b same, least_a.assignment))
+    (greater_meets reads a b least_a.meets least_b.meets) in
     let equal = least_b.least a least_a.assignment least_a.meets in
     let both = both_totals weights reads a b in
     record {

@@ -3,7 +3,6 @@ pub mod RoundLemmas
 pub mod PartLemmas
 pub mod TraceLemmas
 pub mod SearchLemmas
-pub mod Slack
 pub mod Potential
 pub mod PlanLemmas
 pub mod LatticeLemmas

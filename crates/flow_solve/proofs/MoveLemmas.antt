@@ -9,8 +9,8 @@ use Rattle.delay_net.specs.Certificate.{value_of}
 use Rattle.delay_net.specs.declared.net.Read.{Read}
 use Rattle.flow_solve.specs.declared.arc.Arc.{Arc}
 use Rattle.flow_solve.specs.Walk.{arc_at, IsWalk, walk_length}
-use Rattle.flow_solve.specs.Residual.{residual, window_arc, storage_arc, window_back, storage_back, loop_at}
-use Rattle.flow_solve.specs.Conserve.{NoRepeat, CarriesUnit, comes_in, goes_out, node_potential, need_after, hold_after, Moves}
+use Rattle.flow_solve.specs.machine.Residual.{residual, window_arc, storage_arc, window_back, storage_back, loop_at}
+use Rattle.flow_solve.specs.machine.Conserve.{NoRepeat, CarriesUnit, comes_in, goes_out, node_potential, need_after, hold_after, Moves}
 use Rattle.flow_solve.proofs.TraceLemmas.{arc_in_walk}
 use Rattle.flow_solve.proofs.PlanLemmas.{residual_length}
 use Rattle.flow_solve.proofs.ConserveLemmas.{weighed_raised, weighed_lowered, offsets_raised, offsets_lowered}
@@ -22,7 +22,8 @@ arc_of n r h m (suc zero) = storage_arc n r
 arc_of n r h m (suc (suc zero)) = window_back r m
 arc_of n r h m (suc (suc (suc j))) = storage_back n r h
 
-pub residual_at : (n : ℕ) (reads : List Read) (hold need : List ℕ) (i j : ℕ) (d : Read) → i < length reads → length hold ≡ length reads → length need ≡ length reads → j < 4
+pub residual_at : (n : ℕ) (reads : List Read) (hold need : List ℕ) (i j : ℕ) (d : Read) → i < length reads → length hold ≡ length reads
+    → length need ≡ length reads → j < 4
     → arc_at (residual n reads hold need) (4 * i + j) ≡ arc_of n (get_or reads i d) (get_or hold i 0) (get_or need i 0) j
 unfolding residual
 residual_at n [] hold need i j d lt e f below = absurd (omega arith)
@@ -75,7 +76,8 @@ stays weights reads hold need v = record {
   need_up = λ i. omega arith;
 }
 
-raise_need : (weights : List ℕ) (reads : List Read) (hold need : List ℕ) (i : ℕ) (d : Read) → i < length reads → i < length need → IsInOrder weights (get_or reads i d)
+raise_need : (weights : List ℕ) (reads : List Read) (hold need : List ℕ) (i : ℕ) (d : Read) → i < length reads → i < length need
+    → IsInOrder weights (get_or reads i d)
     → Moves weights reads hold need hold (set need i (get_or need i 0 + 1)) (window_arc (get_or reads i d))
 raise_need weights reads hold need i d lt lt' order = record {
   hold_size = refl;
@@ -92,8 +94,10 @@ raise_need weights reads hold need i d lt lt' order = record {
   need_up = raised_up need i;
 }
 
-lower_need : (weights : List ℕ) (reads : List Read) (hold need : List ℕ) (i : ℕ) (d : Read) → i < length reads → i < length need → 0 < get_or need i 0 → IsInOrder weights (get_or reads i d)
-    → Moves weights reads hold need hold (set need i (get_or need i 0 - 1)) (record { from = (get_or reads i d).reader; to = (get_or reads i d).of; length = neg_ℤ (get_or reads i d).offset })
+lower_need : (weights : List ℕ) (reads : List Read) (hold need : List ℕ) (i : ℕ) (d : Read) → i < length reads → i < length need → 0 < get_or need i 0
+    → IsInOrder weights (get_or reads i d)
+    → Moves weights reads hold need hold (set need i (get_or need i 0 - 1))
+    (record { from = (get_or reads i d).reader; to = (get_or reads i d).of; length = neg_ℤ (get_or reads i d).offset })
 lower_need weights reads hold need i d lt lt' some order = record {
   hold_size = refl;
   need_size = length-set need i _;
@@ -109,7 +113,8 @@ lower_need weights reads hold need i d lt lt' some order = record {
   need_up = lowered_up need i;
 }
 
-raise_hold : (weights : List ℕ) (reads : List Read) (hold need : List ℕ) (i : ℕ) (d : Read) → i < length reads → i < length hold → IsInOrder weights (get_or reads i d)
+raise_hold : (weights : List ℕ) (reads : List Read) (hold need : List ℕ) (i : ℕ) (d : Read) → i < length reads → i < length hold
+    → IsInOrder weights (get_or reads i d)
     → Moves weights reads hold need (set hold i (get_or hold i 0 + 1)) need (storage_arc (length weights) (get_or reads i d))
 raise_hold weights reads hold need i d lt lt' order = record {
   hold_size = length-set hold i _;
@@ -126,8 +131,10 @@ raise_hold weights reads hold need i d lt lt' order = record {
   need_up = λ j. omega arith;
 }
 
-lower_hold : (weights : List ℕ) (reads : List Read) (hold need : List ℕ) (i : ℕ) (d : Read) → i < length reads → i < length hold → 0 < get_or hold i 0 → IsInOrder weights (get_or reads i d)
-    → Moves weights reads hold need (set hold i (get_or hold i 0 - 1)) need (record { from = length weights + (get_or reads i d).of; to = (get_or reads i d).reader; length = (get_or reads i d).offset })
+lower_hold : (weights : List ℕ) (reads : List Read) (hold need : List ℕ) (i : ℕ) (d : Read) → i < length reads → i < length hold → 0 < get_or hold i 0
+    → IsInOrder weights (get_or reads i d)
+    → Moves weights reads hold need (set hold i (get_or hold i 0 - 1)) need
+    (record { from = length weights + (get_or reads i d).of; to = (get_or reads i d).reader; length = (get_or reads i d).offset })
 lower_hold weights reads hold need i d lt lt' some order = record {
   hold_size = length-set hold i _;
   need_size = refl;
@@ -147,10 +154,12 @@ abbrev Sends : List ℕ → List Read → List ℕ → List ℕ → ℕ → ℕ 
 Sends weights reads hold need j i arc looped = Moves weights reads hold need (hold_after looped j i hold) (need_after looped j i need) arc
 
 -- what sending along an arc of a read does
-send_kind : (weights : List ℕ) (reads : List Read) (hold need : List ℕ) (i j h m : ℕ) (d : Read) → i < length reads → i < length hold → i < length need → j < 4 → IsInOrder weights (get_or reads i d)
+send_kind : (weights : List ℕ) (reads : List Read) (hold need : List ℕ) (i j h m : ℕ) (d : Read) → i < length reads → i < length hold → i < length need → j < 4
+    → IsInOrder weights (get_or reads i d)
     → ((arc_of (length weights) (get_or reads i d) h m j).from ≢ (arc_of (length weights) (get_or reads i d) h m j).to → j ≡ 2 → 0 < get_or need i 0)
     → ((arc_of (length weights) (get_or reads i d) h m j).from ≢ (arc_of (length weights) (get_or reads i d) h m j).to → j ≡ 3 → 0 < get_or hold i 0)
-    → Sends weights reads hold need j i (arc_of (length weights) (get_or reads i d) h m j) (eqb (arc_of (length weights) (get_or reads i d) h m j).from (arc_of (length weights) (get_or reads i d) h m j).to)
+    → Sends weights reads hold need j i (arc_of (length weights) (get_or reads i d) h m j)
+    (eqb (arc_of (length weights) (get_or reads i d) h m j).from (arc_of (length weights) (get_or reads i d) h m j).to)
 send_kind weights reads hold need i zero h m d lt lh ln below order needed held =
     let r = get_or reads i d in
     let open_arc : eqb r.of r.reader ≡ false = grind (arith, nat_tests) in
@@ -166,7 +175,8 @@ send_kind weights reads hold need i (suc (suc zero)) h zero d lt lh ln below ord
 send_kind weights reads hold need i (suc (suc zero)) h (suc m) d lt lh ln below order needed held =
     let r = get_or reads i d in
     let open_arc : eqb r.reader r.of ≡ false = grind (arith, nat_tests) in
-    subst (Sends weights reads hold need 2 i (window_back r (suc m))) (sym open_arc) (lower_need weights reads hold need i d lt ln (needed (λ e. omega (arith, e, order.0)) refl) order)
+    subst (Sends weights reads hold need 2 i (window_back r (suc m))) (sym open_arc)
+    (lower_need weights reads hold need i d lt ln (needed (λ e. omega (arith, e, order.0)) refl) order)
 send_kind weights reads hold need i (suc (suc (suc zero))) zero m d lt lh ln below order needed held =
     let r = get_or reads i d in
     let closed : eqb r.reader r.reader ≡ true = grind (arith, nat_tests) in
@@ -174,14 +184,18 @@ send_kind weights reads hold need i (suc (suc (suc zero))) zero m d lt lh ln bel
 send_kind weights reads hold need i (suc (suc (suc zero))) (suc h) m d lt lh ln below order needed held =
     let r = get_or reads i d in
     let open_arc : eqb (length weights + r.of) r.reader ≡ false = grind (arith, nat_tests) in
-    subst (Sends weights reads hold need 3 i (storage_back (length weights) r (suc h))) (sym open_arc) (lower_hold weights reads hold need i d lt lh (held (λ e. omega (arith, e, order.1)) refl) order)
+    subst (Sends weights reads hold need 3 i (storage_back (length weights) r (suc h))) (sym open_arc)
+    (lower_hold weights reads hold need i d lt lh (held (λ e. omega (arith, e, order.1)) refl) order)
 send_kind weights reads hold need i (suc (suc (suc (suc j)))) h m d lt lh ln below order needed held = absurd (omega arith)
 
 -- what sending along an arc with a number does
 pub send_is : (weights : List ℕ) (reads : List Read) (hold0 need0 hold need : List ℕ) (number : ℕ) (d : Read) → number / 4 < length reads
-    → length hold0 ≡ length reads → length need0 ≡ length reads → length hold ≡ length reads → length need ≡ length reads → IsInOrder weights (get_or reads (number / 4) d)
-    → ((arc_at (residual (length weights) reads hold0 need0) number).from ≢ (arc_at (residual (length weights) reads hold0 need0) number).to → number % 4 ≡ 2 → 0 < get_or need (number / 4) 0)
-    → ((arc_at (residual (length weights) reads hold0 need0) number).from ≢ (arc_at (residual (length weights) reads hold0 need0) number).to → number % 4 ≡ 3 → 0 < get_or hold (number / 4) 0)
+    → length hold0 ≡ length reads → length need0 ≡ length reads → length hold ≡ length reads → length need ≡ length reads
+    → IsInOrder weights (get_or reads (number / 4) d)
+    → ((arc_at (residual (length weights) reads hold0 need0) number).from ≢ (arc_at (residual (length weights) reads hold0 need0) number).to → number % 4 ≡ 2
+    → 0 < get_or need (number / 4) 0)
+    → ((arc_at (residual (length weights) reads hold0 need0) number).from ≢ (arc_at (residual (length weights) reads hold0 need0) number).to → number % 4 ≡ 3
+    → 0 < get_or hold (number / 4) 0)
     → Sends weights reads hold need (number % 4) (number / 4) (arc_at (residual (length weights) reads hold0 need0) number)
     (eqb (arc_at (residual (length weights) reads hold0 need0) number).from (arc_at (residual (length weights) reads hold0 need0) number).to)
 send_is weights reads hold0 need0 hold need number d lt e f e' f' order needed held =
@@ -189,7 +203,8 @@ send_is weights reads hold0 need0 hold need number d lt e f e' f' order needed h
     let j = number % 4 in
     let below : j < 4 = omega arith in
     let place : 4 * i + j ≡ number = omega arith in
-    let arc_is : arc_of (length weights) (get_or reads i d) (get_or hold0 i 0) (get_or need0 i 0) j ≡ arc_at (residual (length weights) reads hold0 need0) number =
+    let arc_is : arc_of (length weights) (get_or reads i d) (get_or hold0 i 0) (get_or need0 i 0) j
+    ≡ arc_at (residual (length weights) reads hold0 need0) number =
     sym (residual_at (length weights) reads hold0 need0 i j d lt e f below) ∙ ap (arc_at (residual (length weights) reads hold0 need0)) place in
     subst (λ (a : Arc). Sends weights reads hold need j i a (eqb a.from a.to)) arc_is
     (send_kind weights reads hold need i j (get_or hold0 i 0) (get_or need0 i 0) d lt (omega arith) (omega arith) below order
@@ -197,7 +212,8 @@ send_is weights reads hold0 need0 hold need number d lt e f e' f' order needed h
     (λ open_arc kind. held (λ same. open_arc (ap (λ (a : Arc). a.from) arc_is ∙ same ∙ sym (ap (λ (a : Arc). a.to) arc_is))) kind))
 
 -- a needed window back had a need
-pub back_needed : (n : ℕ) (reads : List Read) (hold need : List ℕ) (number : ℕ) (d : Read) → number / 4 < length reads → length hold ≡ length reads → length need ≡ length reads → number % 4 ≡ 2
+pub back_needed : (n : ℕ) (reads : List Read) (hold need : List ℕ) (number : ℕ) (d : Read) → number / 4 < length reads → length hold ≡ length reads
+    → length need ≡ length reads → number % 4 ≡ 2
     → (arc_at (residual n reads hold need) number).from ≢ (arc_at (residual n reads hold need) number).to → 0 < get_or need (number / 4) 0
 back_needed n reads hold need number d lt e f kind open_arc =
     let i = number / 4 in
@@ -209,7 +225,8 @@ back_needed n reads hold need number d lt e f kind open_arc =
     by_need zero h = absurd (h refl)
     by_need (suc m) h = omega arith
 
-pub back_held : (n : ℕ) (reads : List Read) (hold need : List ℕ) (number : ℕ) (d : Read) → number / 4 < length reads → length hold ≡ length reads → length need ≡ length reads → number % 4 ≡ 3
+pub back_held : (n : ℕ) (reads : List Read) (hold need : List ℕ) (number : ℕ) (d : Read) → number / 4 < length reads → length hold ≡ length reads
+    → length need ≡ length reads → number % 4 ≡ 3
     → (arc_at (residual n reads hold need) number).from ≢ (arc_at (residual n reads hold need) number).to → 0 < get_or hold (number / 4) 0
 back_held n reads hold need number d lt e f kind open_arc =
     let i = number / 4 in
@@ -240,11 +257,13 @@ same_number number other j e f g =
     let kind : number % 4 ≡ j = grind (arith, nat_tests) in omega arith
 
 -- a number that another arc doesn't lower stays
-pub need_kept : (looped : Bool) (number other : ℕ) (need : List ℕ) → number ≢ other → other % 4 ≡ 2 → 0 < get_or need (other / 4) 0 → 0 < get_or (need_after looped (number % 4) (number / 4) need) (other / 4) 0
+pub need_kept : (looped : Bool) (number other : ℕ) (need : List ℕ) → number ≢ other → other % 4 ≡ 2 → 0 < get_or need (other / 4) 0
+    → 0 < get_or (need_after looped (number % 4) (number / 4) need) (other / 4) 0
 need_kept looped number other need apart kind some =
     kept looped (eqb (number % 4) 0) (eqb (number % 4) 2) need (number / 4) (other / 4) (λ down same. apart (same_number number other 2 down kind same)) some
 
-pub hold_kept : (looped : Bool) (number other : ℕ) (hold : List ℕ) → number ≢ other → other % 4 ≡ 3 → 0 < get_or hold (other / 4) 0 → 0 < get_or (hold_after looped (number % 4) (number / 4) hold) (other / 4) 0
+pub hold_kept : (looped : Bool) (number other : ℕ) (hold : List ℕ) → number ≢ other → other % 4 ≡ 3 → 0 < get_or hold (other / 4) 0
+    → 0 < get_or (hold_after looped (number % 4) (number / 4) hold) (other / 4) 0
 hold_kept looped number other hold apart kind some =
     kept looped (eqb (number % 4) 1) (eqb (number % 4) 3) hold (number / 4) (other / 4) (λ down same. apart (same_number number other 3 down kind same)) some
 
@@ -255,15 +274,19 @@ pub record Pushed (weights : List ℕ) (reads : List Read) (hold0 need0 : List �
   pub node : ℕ
   pub rest : IsWalk (residual (length weights) reads hold0 need0) node (drop n walk) start
   pub carries : CarriesUnit weights reads hold need start node
-  pub value : value_of reads hold need +ℤ walk_length (residual (length weights) reads hold0 need0) (drop n walk) ≡ value_of reads hold0 need0 +ℤ walk_length (residual (length weights) reads hold0 need0) walk
+  pub value : value_of reads hold need +ℤ walk_length (residual (length weights) reads hold0 need0) (drop n walk)
+      ≡ value_of reads hold0 need0 +ℤ walk_length (residual (length weights) reads hold0 need0) walk
   pub hold_up : (i : ℕ) → get_or hold i 0 ≤ get_or hold0 i 0 + n
   pub need_up : (i : ℕ) → get_or need i 0 ≤ get_or need0 i 0 + n
-  pub needed : (q : ℕ) → n ≤ q → q < length walk → (arc_at (residual (length weights) reads hold0 need0) (get_or walk q 0)).from ≢ (arc_at (residual (length weights) reads hold0 need0) (get_or walk q 0)).to
+  pub needed : (q : ℕ) → n ≤ q → q < length walk → (arc_at (residual (length weights) reads hold0 need0) (get_or walk q 0)).from ≢
+      (arc_at (residual (length weights) reads hold0 need0) (get_or walk q 0)).to
       → get_or walk q 0 % 4 ≡ 2 → 0 < get_or need (get_or walk q 0 / 4) 0
-  pub held : (q : ℕ) → n ≤ q → q < length walk → (arc_at (residual (length weights) reads hold0 need0) (get_or walk q 0)).from ≢ (arc_at (residual (length weights) reads hold0 need0) (get_or walk q 0)).to
+  pub held : (q : ℕ) → n ≤ q → q < length walk → (arc_at (residual (length weights) reads hold0 need0) (get_or walk q 0)).from ≢
+      (arc_at (residual (length weights) reads hold0 need0) (get_or walk q 0)).to
       → get_or walk q 0 % 4 ≡ 3 → 0 < get_or hold (get_or walk q 0 / 4) 0
 
-pub pushed_start : (weights : List ℕ) (reads : List Read) (hold need : List ℕ) (walk : List ℕ) (start : ℕ) → length hold ≡ length reads → length need ≡ length reads
+pub pushed_start : (weights : List ℕ) (reads : List Read) (hold need : List ℕ) (walk : List ℕ) (start : ℕ) → length hold ≡ length reads
+    → length need ≡ length reads
     → IsWalk (residual (length weights) reads hold need) start walk start
     → ((e s : ℕ → ℕ) → comes_in weights reads hold need e s ≡ goes_out weights reads hold need e s)
     → ((q : ℕ) → q < length walk → get_or walk q 0 / 4 < length reads)
@@ -281,17 +304,21 @@ pushed_start weights reads hold need walk start e f w keeps in_range = record {
   held = λ q _ lt open_arc kind. back_held (length weights) reads hold need (get_or walk q 0) module_d (in_range q lt) e f kind open_arc;
 }
 
-pub pushed_more : (weights : List ℕ) (reads : List Read) (hold0 need0 : List ℕ) (walk : List ℕ) (start n : ℕ) (hold need : List ℕ) → All (IsInOrder weights) reads → length hold0 ≡ length reads → length need0 ≡ length reads
+pub pushed_more : (weights : List ℕ) (reads : List Read) (hold0 need0 : List ℕ) (walk : List ℕ) (start n : ℕ) (hold need : List ℕ)
+    → All (IsInOrder weights) reads → length hold0 ≡ length reads → length need0 ≡ length reads
     → NoRepeat walk → n < length walk → get_or walk n 0 / 4 < length reads → Pushed weights reads hold0 need0 walk start n hold need
     → Pushed weights reads hold0 need0 walk start (n + 1)
-    (hold_after (eqb (arc_at (residual (length weights) reads hold0 need0) (get_or walk n 0)).from (arc_at (residual (length weights) reads hold0 need0) (get_or walk n 0)).to) (get_or walk n 0 % 4) (get_or walk n 0 / 4) hold)
-    (need_after (eqb (arc_at (residual (length weights) reads hold0 need0) (get_or walk n 0)).from (arc_at (residual (length weights) reads hold0 need0) (get_or walk n 0)).to) (get_or walk n 0 % 4) (get_or walk n 0 / 4) need)
+    (hold_after (eqb (arc_at (residual (length weights) reads hold0 need0) (get_or walk n 0)).from
+    (arc_at (residual (length weights) reads hold0 need0) (get_or walk n 0)).to) (get_or walk n 0 % 4) (get_or walk n 0 / 4) hold)
+    (need_after (eqb (arc_at (residual (length weights) reads hold0 need0) (get_or walk n 0)).from
+    (arc_at (residual (length weights) reads hold0 need0) (get_or walk n 0)).to) (get_or walk n 0 % 4) (get_or walk n 0 / 4) need)
 pushed_more weights reads hold0 need0 walk start n hold need order e f once lt place p =
     let graph = residual (length weights) reads hold0 need0 in
     let number = get_or walk n 0 in
     let arc = arc_at graph number in
     let step : IsWalk graph p.node (number ∷ drop (n + 1) walk) start = subst (λ l. IsWalk graph p.node l start) (drop_more walk n 0 lt) p.rest in
-    let moves = send_is weights reads hold0 need0 hold need number module_d place e f p.hold_size p.need_size (order (number / 4) module_d place) (p.needed n (omega arith) lt) (p.held n (omega arith) lt) in
+    let moves = send_is weights reads hold0 need0 hold need number module_d place e f p.hold_size p.need_size (order (number / 4) module_d place)
+    (p.needed n (omega arith) lt) (p.held n (omega arith) lt) in
     let length_is : walk_length graph (drop n walk) ≡ arc.length +ℤ walk_length graph (drop (n + 1) walk) = ap (walk_length graph) (drop_more walk n 0 lt) in
     record {
       hold_size = moves.hold_size ∙ p.hold_size;
@@ -299,13 +326,16 @@ pushed_more weights reads hold0 need0 walk start n hold need order e f once lt p
       node = arc.to;
       rest = step.2;
       carries = λ a s.
-          let from_is : node_potential (length weights) a s arc.from ≡ node_potential (length weights) a s p.node = ap (node_potential (length weights) a s) step.1 in
+          let from_is : node_potential (length weights) a s arc.from
+          ≡ node_potential (length weights) a s p.node = ap (node_potential (length weights) a s) step.1 in
           omega (arith, p.carries a s, moves.conserves a s);
       value = omega (arith, ints, p.value, moves.value, length_is);
       hold_up = λ i. omega (arith, moves.hold_up i, p.hold_up i);
       need_up = λ i. omega (arith, moves.need_up i, p.need_up i);
-      needed = λ q past below open_arc kind. need_kept (eqb arc.from arc.to) number (get_or walk q 0) need (once n q (omega arith) below) kind (p.needed q (omega arith) below open_arc kind);
-      held = λ q past below open_arc kind. hold_kept (eqb arc.from arc.to) number (get_or walk q 0) hold (once n q (omega arith) below) kind (p.held q (omega arith) below open_arc kind);
+      needed = λ q past below open_arc kind. need_kept (eqb arc.from arc.to) number (get_or walk q 0) need (once n q (omega arith) below) kind
+          (p.needed q (omega arith) below open_arc kind);
+      held = λ q past below open_arc kind. hold_kept (eqb arc.from arc.to) number (get_or walk q 0) hold (once n q (omega arith) below) kind
+          (p.held q (omega arith) below open_arc kind);
     }
 
 pub pushed_all : (weights : List ℕ) (reads : List Read) (hold0 need0 : List ℕ) (walk : List ℕ) (start n : ℕ) (hold need : List ℕ) → length walk ≤ n
@@ -317,7 +347,8 @@ pushed_all weights reads hold0 need0 walk start n hold need past p =
     let none : drop n walk ≡ [] = drop_all n walk past in
     let closed : p.node ≡ start = subst (λ l. IsWalk graph p.node l start) none p.rest in
     let rest : walk_length graph (drop n walk) ≡ pos 0 = ap (walk_length graph) none in (
-      λ a s. let back : node_potential (length weights) a s p.node ≡ node_potential (length weights) a s start = ap (node_potential (length weights) a s) closed in omega (arith, p.carries a s),
+      λ a s. let back : node_potential (length weights) a s p.node ≡ node_potential (length weights) a s start = ap (node_potential (length weights) a s) closed
+          in omega (arith, p.carries a s),
       omega (arith, ints, p.value, rest),
     )
 

@@ -6,7 +6,7 @@ use Rattle.std.proofs.lemmas.Bool.{cases_eq}
 use Rattle.std.proofs.lemmas.List.{get_or-replicate, length-replicate}
 use Rattle.flow_solve.specs.declared.arc.Arc.{Arc}
 use Rattle.flow_solve.specs.Walk.{arc_at}
-use Rattle.flow_solve.specs.Rounds.{at, IsArc, IsGraph, IsRound, ComesBy}
+use Rattle.flow_solve.specs.machine.Rounds.{at, IsArc, IsGraph, IsRound, ComesBy}
 use Rattle.flow_solve.proofs.RoundLemmas.{arc_in}
 
 -- the round so far, over the first n arcs
@@ -47,7 +47,8 @@ part_passed graph n nodes old last new raised here part = record {
 -- an arc that leads further is taken
 pub part_taken : (graph : List Arc) (n nodes : ℕ) (old : List ℤ) (last : List (Option ℕ)) (new : List ℤ) (raised : Option ℕ) (z : ℤ)
     → IsGraph nodes graph → n < length graph → z ≡ at old (arc_at graph n).from +ℤ (arc_at graph n).length → at new (arc_at graph n).to <ℤ z
-    → IsPart graph n nodes old last new raised → IsPart graph (n + 1) nodes old (set last (arc_at graph n).to (Some n)) (set new (arc_at graph n).to z) (Some (arc_at graph n).to)
+    → IsPart graph n nodes old last new raised → IsPart graph (n + 1) nodes old (set last (arc_at graph n).to (Some n)) (set new (arc_at graph n).to z)
+    (Some (arc_at graph n).to)
 part_taken graph n nodes old last new raised z is lt sum above part = record {
   size = length-set new to z ∙ part.size;
   last_size = length-set last to (Some n) ∙ part.last_size;
@@ -58,7 +59,8 @@ part_taken graph n nodes old last new raised z is lt sum above part = record {
       (subst (λ x. ComesBy graph old v x (slice_index_or last v None)) (sym (elsewhere v ne)) (part.comes v in_range)))
       (cases_eq to v);
   grows = λ v in_range. let more = more_at v in let before = part.grows v in_range in omega (arith, ints);
-  further = below_more _ n (λ k below. let more = more_at (arc_at graph k).to in let before = part.further k below in omega (arith, ints)) (omega (arith, ints, here, sum));
+  further = below_more _ n (λ k below. let more = more_at (arc_at graph k).to in let before = part.further k below in omega (arith, ints))
+      (omega (arith, ints, here, sum));
   risen = (arc.1, let before = part.grows to arc.1 in omega (arith, ints, here));
   still = tt;
 }
@@ -82,9 +84,11 @@ part_taken graph n nodes old last new raised z is lt sum above part = record {
     elsewhere v ne = get_or-set_other new to v z (pos 0) (λ e. ne (sym e))
 
     more_at : (v : ℕ) → at new v ≤ℤ at (set new to z) v
-    more_at v = ⊎_elim (λ e. subst (λ u. at new u ≤ℤ at (set new to z) u) e (omega (arith, ints, here, above))) (λ ne. omega (arith, ints, elsewhere v ne)) (cases_eq to v)
+    more_at v = ⊎_elim (λ e. subst (λ u. at new u ≤ℤ at (set new to z) u) e (omega (arith, ints, here, above))) (λ ne. omega (arith, ints, elsewhere v ne))
+        (cases_eq to v)
 
-pub part_all : (graph : List Arc) (nodes : ℕ) (old : List ℤ) (last : List (Option ℕ)) (new : List ℤ) (raised : Option ℕ) (n : ℕ) → length old ≡ nodes → length graph ≤ n
+pub part_all : (graph : List Arc) (nodes : ℕ) (old : List ℤ) (last : List (Option ℕ)) (new : List ℤ) (raised : Option ℕ) (n : ℕ) → length old ≡ nodes
+    → length graph ≤ n
     → IsPart graph n nodes old last new raised → IsRound graph old last new
 part_all graph nodes old last new raised n size past part = record {
   size = part.size ∙ sym size;
@@ -97,4 +101,5 @@ part_all graph nodes old last new raised n size past part = record {
 pub part_same : (graph : List Arc) (n nodes : ℕ) (old : List ℤ) (last last' : List (Option ℕ)) (new new' : List ℤ) (raised raised' : Option ℕ)
     → last' ≡ last → new' ≡ new → raised' ≡ raised → IsPart graph n nodes old last new raised → IsPart graph n nodes old last' new' raised'
 part_same graph n nodes old last last' new new' raised raised' e f g part =
-    subst (λ l. IsPart graph n nodes old l new' raised') (sym e) (subst (λ l. IsPart graph n nodes old last l raised') (sym f) (subst (λ r. IsPart graph n nodes old last new r) (sym g) part))
+    subst (λ l. IsPart graph n nodes old l new' raised') (sym e)
+    (subst (λ l. IsPart graph n nodes old last l raised') (sym f) (subst (λ r. IsPart graph n nodes old last new r) (sym g) part))

@@ -9,11 +9,11 @@ use Rattle.delay_net.specs.Shape.{IsInOrder, IsNet, HasSmallOffset}
 use Rattle.delay_net.specs.Windows.{total_storage}
 use Rattle.delay_net.specs.Certificate.{IsBalanced, Fits}
 use Rattle.delay_net.specs.declared.net.Read.{Read}
-use Rattle.delay_net.proofs.Duality.{fitting_is_least}
+use Rattle.delay_net.proofs.CallerLemmas.{fitting_is_least}
 use Rattle.flow_solve.specs.declared.arc.Arc.{Arc}
 use Rattle.flow_solve.specs.Walk.{at, IsArc, IsGraph, IsGreatestLength}
 use Rattle.flow_solve.specs.LeastPlan.{IsLeastPlan}
-use Rattle.flow_solve.specs.Residual.{residual, window_back, storage_back}
+use Rattle.flow_solve.specs.machine.Residual.{residual, window_back, storage_back}
 use Rattle.flow_solve.proofs.Potential.{Within, AreDelays, obeys_from_arcs, arcs_from_obeys, obeys_fits, least_obeys, lengths_within, lengths_least, potential_of, potential_delay, potential_storage}
 
 -- a read of the net
@@ -50,30 +50,35 @@ residual_length n (r ∷ reads) (h ∷ hold) [] = omega arith
 residual_length n (r ∷ reads) (h ∷ hold) (m ∷ need) = omega (arith, residual_length n reads hold need)
 
 -- what a certificate leaves is a graph for the search
-pub residual_graph : (weights : List ℕ) (reads : List Read) (hold need : List ℕ) → IsNet weights reads → IsGraph (length weights + length weights) (residual (length weights) reads hold need)
+pub residual_graph : (weights : List ℕ) (reads : List Read) (hold need : List ℕ) → IsNet weights reads
+    → IsGraph (length weights + length weights) (residual (length weights) reads hold need)
 residual_graph weights reads hold need net = record {
   few_nodes = omega (arith, net.few_tensors);
   few_arcs = omega (arith, net.few_reads, residual_length (length weights) reads hold need);
-  arcs = All-from_recursion (IsArc (length weights + length weights)) _ (residual_arcs weights reads hold need (recursion_from_All (IsReadOf weights) reads (λ k d lt. (net.order k d lt, net.offsets k d lt))));
+  arcs = All-from_recursion (IsArc (length weights + length weights)) _
+      (residual_arcs weights reads hold need (recursion_from_All (IsReadOf weights) reads (λ k d lt. (net.order k d lt, net.offsets k d lt))));
 }
 
 pub graph_is : (weights : List ℕ) (reads : List Read) (hold need : List ℕ) (tensors : ℕ) (arcs : List Arc) → IsNet weights reads → tensors ≡ length weights
     → arcs ≡ residual (length weights) reads hold need → IsGraph (2 * tensors) arcs
 graph_is weights reads hold need tensors arcs net count e =
     let nodes : length weights + length weights ≡ 2 * tensors = omega arith in
-    subst (λ (g : List Arc). IsGraph (2 * tensors) g) (sym e) (subst (λ v. IsGraph v (residual (length weights) reads hold need)) nodes (residual_graph weights reads hold need net))
+    subst (λ (g : List Arc). IsGraph (2 * tensors) g) (sym e)
+    (subst (λ v. IsGraph v (residual (length weights) reads hold need)) nodes (residual_graph weights reads hold need net))
 
 -- the delays of the greatest lengths are the plan
 pub plan_is : (weights : List ℕ) (reads : List Read) (hold need delays : List ℕ) (lengths : List ℤ) → IsNet weights reads → IsBalanced weights reads hold need
     → length hold ≡ length reads → length need ≡ length reads
-    → ((v : ℕ) → v < length weights + length weights → IsGreatestLength (length weights + length weights) (residual (length weights) reads hold need) v (at lengths v))
+    → ((v : ℕ) → v < length weights + length weights → IsGreatestLength (length weights + length weights) (residual (length weights) reads hold need) v
+    (at lengths v))
     → AreDelays (at lengths) (length weights) delays
     → IsLeastPlan weights reads delays × Fits weights reads delays hold need
 plan_is weights reads hold need delays lengths net balanced e f greatest are =
     let n = length weights in
     let graph = residual n reads hold need in
     let is = residual_graph weights reads hold need net in
-    let within = lengths_within (n + n) graph lengths greatest (λ k lt. let arc = is.arcs k (record { from = 0; to = 0; length = pos 0 }) lt in (arc.0, arc.1)) in
+    let within = lengths_within (n + n) graph lengths greatest
+    (λ k lt. let arc = is.arcs k (record { from = 0; to = 0; length = pos 0 }) lt in (arc.0, arc.1)) in
     let obeys = obeys_from_arcs (at lengths) n reads hold need (recursion_from_All (Within (at lengths)) graph within) in
     let fits = obeys_fits (at lengths) weights delays reads hold need are net.order e f obeys balanced in
     let least = fitting_is_least weights reads delays hold need net.order fits.1 in (
@@ -85,7 +90,8 @@ plan_is weights reads hold need delays lengths net balanced e f greatest are =
             let same : total_storage weights reads delays ≡ total_storage weights reads others = omega arith in
             let kept = least_obeys weights reads hold need others net.order balanced other.meets (fits.1.value ∙ ap pos same) in
             let arcs = All-from_recursion (Within (potential_of n reads others)) graph (arcs_from_obeys (potential_of n reads others) n reads hold need kept) in
-            let below = lengths_least (potential_of n reads others) (n + n) graph t (at lengths t) (greatest t (omega arith)) arcs (λ u in_range. above n reads others u in_range) in
+            let below = lengths_least (potential_of n reads others) (n + n) graph t (at lengths t) (greatest t (omega arith)) arcs
+            (λ u in_range. above n reads others u in_range) in
             let mine = are.1 t lt in
             let theirs = potential_delay n reads others t lt in
             omega (arith, ints);
@@ -106,4 +112,5 @@ plan_is weights reads hold need delays lengths net balanced e f greatest are =
 pub plan_one : (weights : List ℕ) (reads : List Read) (plan other : List ℕ) → IsLeastPlan weights reads plan → IsLeastPlan weights reads other → other ≡ plan
 plan_one weights reads plan other p o =
     ext_get_or 0 other plan (o.least.assignment ∙ sym p.least.assignment)
-    (λ t lt. let below = o.first plan p.least t (omega (arith, o.least.assignment)) in let above = p.first other o.least t (omega (arith, o.least.assignment)) in omega arith)
+    (λ t lt. let below = o.first plan p.least t (omega (arith, o.least.assignment)) in let above = p.first other o.least t (omega (arith, o.least.assignment))
+    in omega arith)

@@ -9,14 +9,13 @@ use Rattle.delay_net.specs.Shape.{IsInOrder}
 use Rattle.delay_net.specs.Windows.{MeetsWindow, MeetsWindows, age, at_least_0, storage_of, total_storage}
 use Rattle.delay_net.specs.Certificate.{IsBalanced, value_of, Fits}
 use Rattle.delay_net.specs.declared.net.Read.{Read}
-use Rattle.delay_net.proofs.SumLemmas.{dot}
-use Rattle.delay_net.proofs.Steps.{storage_of_is}
+use Rattle.delay_net.specs.pieces.Weighed.{weighed}
+use Rattle.delay_net.proofs.CallerLemmas.{storage_of_is, age_parts, age_within, gap, value_and_slack}
 use Rattle.flow_solve.specs.declared.arc.Arc.{Arc}
 use Rattle.flow_solve.specs.Walk.{at, arc_at, IsWalk, walk_length, IsGreatestLength}
-use Rattle.flow_solve.specs.Residual.{residual, window_back, storage_back}
+use Rattle.flow_solve.specs.machine.Residual.{residual, window_back, storage_back}
 use Rattle.std.proofs.lemmas.List.{get_or_default}
 use Rattle.flow_solve.proofs.WalkLemmas.{walk_join, walk_length-append}
-use Rattle.flow_solve.proofs.Slack.{age_parts, age_within, gap, value_and_slack}
 
 -- what a potential keeps at a read with a hold and a need
 pub record Keeps (p : ℕ → ℤ) (n : ℕ) (r : Read) (h m : ℕ) : Type 0 where
@@ -43,7 +42,8 @@ held_from : (p : ℕ → ℤ) (n : ℕ) (r : Read) (h : ℕ) → Within p (stora
 held_from p n r zero w lt = absurd (omega arith)
 held_from p n r (suc h) w lt = w
 
-pub obeys_from_arcs : (p : ℕ → ℤ) (n : ℕ) (reads : List Read) (hold need : List ℕ) → AllByRecursion (Within p) (residual n reads hold need) → Obeys p n reads hold need
+pub obeys_from_arcs : (p : ℕ → ℤ) (n : ℕ) (reads : List Read) (hold need : List ℕ) → AllByRecursion (Within p) (residual n reads hold need)
+    → Obeys p n reads hold need
 unfolding residual Obeys
 obeys_from_arcs p n [] hold need all = tt
 obeys_from_arcs p n (r ∷ reads) [] need all = tt
@@ -61,13 +61,19 @@ hold_within : (p : ℕ → ℤ) (n : ℕ) (r : Read) (h : ℕ) → (0 < h → (p
 hold_within p n r zero w = omega (arith, ints)
 hold_within p n r (suc h) w = w (omega arith)
 
-pub arcs_from_obeys : (p : ℕ → ℤ) (n : ℕ) (reads : List Read) (hold need : List ℕ) → Obeys p n reads hold need → AllByRecursion (Within p) (residual n reads hold need)
+pub arcs_from_obeys : (p : ℕ → ℤ) (n : ℕ) (reads : List Read) (hold need : List ℕ) → Obeys p n reads hold need
+    → AllByRecursion (Within p) (residual n reads hold need)
 unfolding residual Obeys
 arcs_from_obeys p n [] hold need all = tt
 arcs_from_obeys p n (r ∷ reads) [] need all = tt
 arcs_from_obeys p n (r ∷ reads) (h ∷ hold) [] all = tt
-arcs_from_obeys p n (r ∷ reads) (h ∷ hold) (m ∷ need) all =
-    (all.0.window, (let here = all.0.storage in omega (arith, ints), (back_within p r m all.0.needed, (hold_within p n r h all.0.held, arcs_from_obeys p n reads hold need all.1))))
+arcs_from_obeys p n (r ∷ reads) (h ∷ hold) (m ∷ need) all = (
+  all.0.window,
+  (
+    let here = all.0.storage in omega (arith, ints),
+    (back_within p r m all.0.needed, (hold_within p n r h all.0.held, arcs_from_obeys p n reads hold need all.1)),
+  ),
+)
 
 -- numbers stand beside f only where f is 0
 unfoldable pub Vanishes : (Read → ℕ) → List Read → List ℕ → Type 0
@@ -86,23 +92,24 @@ factor_0 (suc n) x e lt = omega (arith, mul-le-mul_right x (pos_le n), e)
     pos_le : (n : ℕ) → 1 ≤ suc n
     pos_le n = omega arith
 
-pub dot_vanishes : (f : Read → ℕ) (reads : List Read) (numbers : List ℕ) → Vanishes f reads numbers → dot f reads numbers ≡ 0
-unfolding Vanishes dot
-dot_vanishes f [] numbers v = refl
-dot_vanishes f (r ∷ reads) [] v = refl
-dot_vanishes f (r ∷ reads) (n ∷ numbers) v = omega (arith, product_0 n (f r) v.0, dot_vanishes f reads numbers v.1)
+pub weighed_vanishes : (f : Read → ℕ) (reads : List Read) (numbers : List ℕ) → Vanishes f reads numbers → weighed f reads numbers ≡ 0
+unfolding Vanishes weighed
+weighed_vanishes f [] numbers v = refl
+weighed_vanishes f (r ∷ reads) [] v = refl
+weighed_vanishes f (r ∷ reads) (n ∷ numbers) v = omega (arith, product_0 n (f r) v.0, weighed_vanishes f reads numbers v.1)
 
-pub vanishes_from_dot : (f : Read → ℕ) (reads : List Read) (numbers : List ℕ) → dot f reads numbers ≡ 0 → Vanishes f reads numbers
-unfolding Vanishes dot
-vanishes_from_dot f [] numbers e = tt
-vanishes_from_dot f (r ∷ reads) [] e = tt
-vanishes_from_dot f (r ∷ reads) (n ∷ numbers) e = (factor_0 n (f r) (omega arith), vanishes_from_dot f reads numbers (omega arith))
+pub vanishes_from_weighed : (f : Read → ℕ) (reads : List Read) (numbers : List ℕ) → weighed f reads numbers ≡ 0 → Vanishes f reads numbers
+unfolding Vanishes weighed
+vanishes_from_weighed f [] numbers e = tt
+vanishes_from_weighed f (r ∷ reads) [] e = tt
+vanishes_from_weighed f (r ∷ reads) (n ∷ numbers) e = (factor_0 n (f r) (omega arith), vanishes_from_weighed f reads numbers (omega arith))
 
 -- the windows and storages that a potential keeps, read by read
 abbrev pub Covers : (ℕ → ℤ) → ℕ → Read → Type 0
 Covers p n r = ((p r.of +ℤ r.offset) ≤ℤ p r.reader) × ((p r.reader -ℤ r.offset) ≤ℤ p (n + r.of))
 
-pub obeys_covers : (p : ℕ → ℤ) (n : ℕ) (reads : List Read) (hold need : List ℕ) → length hold ≡ length reads → length need ≡ length reads → Obeys p n reads hold need → AllByRecursion (Covers p n) reads
+pub obeys_covers : (p : ℕ → ℤ) (n : ℕ) (reads : List Read) (hold need : List ℕ) → length hold ≡ length reads → length need ≡ length reads
+    → Obeys p n reads hold need → AllByRecursion (Covers p n) reads
 unfolding Obeys
 obeys_covers p n [] hold need e f all = tt
 obeys_covers p n (r ∷ reads) [] need e f all = absurd (omega arith)
@@ -113,24 +120,28 @@ obeys_covers p n (r ∷ reads) (h ∷ hold) (m ∷ need) e f all = ((all.0.windo
 abbrev pub AreDelays : (ℕ → ℤ) → ℕ → List ℕ → Type 0
 AreDelays p n delays = (length delays ≡ n) × ((t : ℕ) → t < n → p t ≡ pos (slice_index delays t))
 
-covers_window : (p : ℕ → ℤ) (weights delays : List ℕ) (r : Read) → AreDelays p (length weights) delays → IsInOrder weights r → Covers p (length weights) r → MeetsWindow delays r
+covers_window : (p : ℕ → ℤ) (weights delays : List ℕ) (r : Read) → AreDelays p (length weights) delays → IsInOrder weights r → Covers p (length weights) r
+    → MeetsWindow delays r
 covers_window p weights delays r are order covers =
     let of = are.1 r.of (omega (arith, order.0, order.1)) in
     let reader = are.1 r.reader order.1 in
     let window = covers.0 in omega (arith, ints)
 
-covers_age : (p : ℕ → ℤ) (weights delays : List ℕ) (r : Read) → AreDelays p (length weights) delays → IsInOrder weights r → Covers p (length weights) r → (age delays r +ℤ p r.of) ≤ℤ p (length weights + r.of)
+covers_age : (p : ℕ → ℤ) (weights delays : List ℕ) (r : Read) → AreDelays p (length weights) delays → IsInOrder weights r → Covers p (length weights) r
+    → (age delays r +ℤ p r.of) ≤ℤ p (length weights + r.of)
 covers_age p weights delays r are order covers =
     let of = are.1 r.of (omega (arith, order.0, order.1)) in
     let reader = are.1 r.reader order.1 in
     let storage = covers.1 in omega (arith, ints)
 
-pub covers_meets : (p : ℕ → ℤ) (weights delays : List ℕ) (reads : List Read) → AreDelays p (length weights) delays → All (IsInOrder weights) reads → All (Covers p (length weights)) reads → MeetsWindows reads delays
+pub covers_meets : (p : ℕ → ℤ) (weights delays : List ℕ) (reads : List Read) → AreDelays p (length weights) delays → All (IsInOrder weights) reads
+    → All (Covers p (length weights)) reads → MeetsWindows reads delays
 covers_meets p weights delays reads are order covers = λ k d lt.
     covers_window p weights delays (get_or reads k d) are (order k d lt) (covers k d lt)
 
 -- a tensor's storage is within the potentials of its two nodes
-pub covers_storage : (p : ℕ → ℤ) (weights delays : List ℕ) (reads : List Read) (t : ℕ) → AreDelays p (length weights) delays → All (IsInOrder weights) reads → All (Covers p (length weights)) reads
+pub covers_storage : (p : ℕ → ℤ) (weights delays : List ℕ) (reads : List Read) (t : ℕ) → AreDelays p (length weights) delays → All (IsInOrder weights) reads
+    → All (Covers p (length weights)) reads
     → (storage_of reads delays t ≡ 0) ⊎ ((pos (storage_of reads delays t) +ℤ p t) ≤ℤ p (length weights + t))
 covers_storage p weights delays reads t are order covers =
     ⊎_elim (λ none. inl none)
@@ -140,7 +151,8 @@ covers_storage p weights delays reads t are order covers =
     let order_here : IsInOrder weights r = subst (IsInOrder weights) some.1.2 (order k r some.1.1) in
     let covers_here : Covers p (length weights) r = subst (Covers p (length weights)) some.1.2 (covers k r some.1.1) in
     let within = covers_age p weights delays r are order_here covers_here in
-    let bound : (pos (storage_of reads delays t) +ℤ p r.of) ≤ℤ p (length weights + r.of) = subst (λ z. (z +ℤ p r.of) ≤ℤ p (length weights + r.of)) some.3 within in
+    let bound : (pos (storage_of reads delays t) +ℤ p r.of)
+    ≤ℤ p (length weights + r.of) = subst (λ z. (z +ℤ p r.of) ≤ℤ p (length weights + r.of)) some.3 within in
     inr (subst (λ u. (pos (storage_of reads delays t) +ℤ p u) ≤ℤ p (length weights + u)) some.2 bound))
     (storage_of_is reads delays t).reached
 
@@ -152,7 +164,8 @@ at_least_0_none : (z : ℤ) → z ≤ℤ pos 0 → at_least_0 z ≡ 0
 at_least_0_none (pos m) h = omega (arith, ints)
 at_least_0_none (negsuc m) h = refl
 
-oldest : (p : ℕ → ℤ) (weights delays : List ℕ) (all : List Read) (r : Read) (h m : ℕ) → AreDelays p (length weights) delays → IsInOrder weights r → Keeps p (length weights) r h m
+oldest : (p : ℕ → ℤ) (weights delays : List ℕ) (all : List Read) (r : Read) (h m : ℕ) → AreDelays p (length weights) delays → IsInOrder weights r
+    → Keeps p (length weights) r h m
     → (storage_of all delays r.of ≡ 0) ⊎ ((pos (storage_of all delays r.of) +ℤ p r.of) ≤ℤ p (length weights + r.of)) → 0 < h → gap all delays r ≡ 0
 oldest p weights delays all r h m are order keeps storage lt =
     ⊎_elim (λ none. omega arith)
@@ -164,7 +177,8 @@ oldest p weights delays all r h m are order keeps storage lt =
     omega arith)
     storage
 
-youngest : (p : ℕ → ℤ) (weights delays : List ℕ) (r : Read) (h m : ℕ) → AreDelays p (length weights) delays → IsInOrder weights r → Keeps p (length weights) r h m → 0 < m → at_least_0 (age delays r) ≡ 0
+youngest : (p : ℕ → ℤ) (weights delays : List ℕ) (r : Read) (h m : ℕ) → AreDelays p (length weights) delays → IsInOrder weights r
+    → Keeps p (length weights) r h m → 0 < m → at_least_0 (age delays r) ≡ 0
 youngest p weights delays r h m are order keeps lt =
     let of = are.1 r.of (omega (arith, order.0, order.1)) in
     let reader = are.1 r.reader order.1 in
@@ -185,16 +199,18 @@ obeys_tight p weights delays all (r ∷ reads) (h ∷ hold) (m ∷ need) are sto
     ((oldest p weights delays all r h m are order.0 obeys.0 (storage r.of), rest.0), (youngest p weights delays r h m are order.0 obeys.0, rest.1))
 
 -- a balanced certificate fits the delays of a potential of what it leaves
-pub obeys_fits : (p : ℕ → ℤ) (weights delays : List ℕ) (reads : List Read) (hold need : List ℕ) → AreDelays p (length weights) delays → All (IsInOrder weights) reads
+pub obeys_fits : (p : ℕ → ℤ) (weights delays : List ℕ) (reads : List Read) (hold need : List ℕ) → AreDelays p (length weights) delays
+    → All (IsInOrder weights) reads
     → length hold ≡ length reads → length need ≡ length reads → Obeys p (length weights) reads hold need → IsBalanced weights reads hold need
     → MeetsWindows reads delays × Fits weights reads delays hold need
 obeys_fits p weights delays reads hold need are order e f obeys balanced =
     let covers = All-from_recursion (Covers p (length weights)) reads (obeys_covers p (length weights) reads hold need e f obeys) in
     let meets = covers_meets p weights delays reads are order covers in
-    let tight = obeys_tight p weights delays reads reads hold need are (λ t. covers_storage p weights delays reads t are order covers) (recursion_from_All (IsInOrder weights) reads order) e f obeys in
+    let tight = obeys_tight p weights delays reads reads hold need are (λ t. covers_storage p weights delays reads t are order covers)
+    (recursion_from_All (IsInOrder weights) reads order) e f obeys in
     let sum = value_and_slack weights reads hold need delays order balanced meets in
-    let holds = dot_vanishes (gap reads delays) reads hold tight.0 in
-    let needs = dot_vanishes (λ r. at_least_0 (age delays r)) reads need tight.1 in
+    let holds = weighed_vanishes (gap reads delays) reads hold tight.0 in
+    let needs = weighed_vanishes (λ r. at_least_0 (age delays r)) reads need tight.1 in
     (meets, record { balanced = balanced; value = omega (arith, ints) })
 
 -- the potential of another assignment: its delays, and its delays plus its storages
@@ -207,7 +223,8 @@ potential_delay n reads others v lt =
     let below : ltb v n ≡ true = grind (arith, nat_tests) in
     ap (λ b. cond b (pos (slice_index others v)) (pos (slice_index others (v - n) + storage_of reads others (v - n)))) below
 
-pub potential_storage : (n : ℕ) (reads : List Read) (others : List ℕ) (t : ℕ) → potential_of n reads others (n + t) ≡ pos (slice_index others t + storage_of reads others t)
+pub potential_storage : (n : ℕ) (reads : List Read) (others : List ℕ) (t : ℕ)
+    → potential_of n reads others (n + t) ≡ pos (slice_index others t + storage_of reads others t)
 unfolding potential_of
 potential_storage n reads others t =
     let above : ltb (n + t) n ≡ false = grind (arith, nat_tests) in
@@ -216,7 +233,8 @@ potential_storage n reads others t =
     ∙ ap (λ u. pos (slice_index others u + storage_of reads others u)) place
 
 -- where an assignment leaves no slack, its potential keeps each read
-tight_keeps : (n : ℕ) (all : List Read) (others : List ℕ) (weights : List ℕ) (r : Read) (h m : ℕ) → length weights ≡ n → IsInOrder weights r → MeetsWindow others r
+tight_keeps : (n : ℕ) (all : List Read) (others : List ℕ) (weights : List ℕ) (r : Read) (h m : ℕ) → length weights ≡ n → IsInOrder weights r
+    → MeetsWindow others r
     → at_least_0 (age others r) ≤ storage_of all others r.of → (0 < h → gap all others r ≡ 0) → (0 < m → at_least_0 (age others r) ≡ 0)
     → Keeps (potential_of n all others) n r h m
 tight_keeps n all others weights r h m size order meets within held needed =
@@ -232,7 +250,8 @@ tight_keeps n all others weights r h m size order meets within held needed =
     }
 
 pub tight_obeys : (n : ℕ) (all : List Read) (others weights : List ℕ) (reads : List Read) (hold need : List ℕ) → length weights ≡ n
-    → AllByRecursion (IsInOrder weights) reads → AllByRecursion (MeetsWindow others) reads → AllByRecursion (λ r. at_least_0 (age others r) ≤ storage_of all others r.of) reads
+    → AllByRecursion (IsInOrder weights) reads → AllByRecursion (MeetsWindow others) reads
+    → AllByRecursion (λ r. at_least_0 (age others r) ≤ storage_of all others r.of) reads
     → Vanishes (gap all others) reads hold → Vanishes (λ r. at_least_0 (age others r)) reads need
     → Obeys (potential_of n all others) n reads hold need
 unfolding Obeys Vanishes
@@ -245,19 +264,21 @@ tight_obeys n all others weights (r ∷ reads) (h ∷ hold) (m ∷ need) size or
 )
 
 -- another assignment of the same storage obeys what the certificate leaves
-pub least_obeys : (weights : List ℕ) (reads : List Read) (hold need others : List ℕ) → All (IsInOrder weights) reads → IsBalanced weights reads hold need → MeetsWindows reads others
+pub least_obeys : (weights : List ℕ) (reads : List Read) (hold need others : List ℕ) → All (IsInOrder weights) reads → IsBalanced weights reads hold need
+    → MeetsWindows reads others
     → value_of reads hold need ≡ pos (total_storage weights reads others) → Obeys (potential_of (length weights) reads others) (length weights) reads hold need
 least_obeys weights reads hold need others order balanced meets value =
     let sum = value_and_slack weights reads hold need others order balanced meets in
-    let holds : dot (gap reads others) reads hold ≡ 0 = omega (arith, ints) in
-    let needs : dot (λ r. at_least_0 (age others r)) reads need ≡ 0 = omega (arith, ints) in
+    let holds : weighed (gap reads others) reads hold ≡ 0 = omega (arith, ints) in
+    let needs : weighed (λ r. at_least_0 (age others r)) reads need ≡ 0 = omega (arith, ints) in
     tight_obeys (length weights) reads others weights reads hold need refl
     (recursion_from_All (IsInOrder weights) reads order) (recursion_from_All (MeetsWindow others) reads meets)
     (recursion_from_All (λ r. at_least_0 (age others r) ≤ storage_of reads others r.of) reads (age_within others reads))
-    (vanishes_from_dot (gap reads others) reads hold holds) (vanishes_from_dot (λ r. at_least_0 (age others r)) reads need needs)
+    (vanishes_from_weighed (gap reads others) reads hold holds) (vanishes_from_weighed (λ r. at_least_0 (age others r)) reads need needs)
 
 -- a walk is no longer than the rise of a potential along it
-pub walk_rises : (p : ℕ → ℤ) (graph : List Arc) (s t : ℕ) (walk : List ℕ) → All (Within p) graph → IsWalk graph s walk t → (p s +ℤ walk_length graph walk) ≤ℤ p t
+pub walk_rises : (p : ℕ → ℤ) (graph : List Arc) (s t : ℕ) (walk : List ℕ) → All (Within p) graph → IsWalk graph s walk t
+    → (p s +ℤ walk_length graph walk) ≤ℤ p t
 walk_rises p graph s t [] all w = subst (λ n. (p s +ℤ pos 0) ≤ℤ p n) w (omega (arith, ints))
 walk_rises p graph s t (k ∷ walk) all w =
     let first = all k (record { from = 0; to = 0; length = pos 0 }) w.0 in
@@ -278,7 +299,8 @@ lengths_within nodes graph lengths greatest ends = λ k d lt.
     subst (Within (at lengths)) (sym same) (omega (arith, ints, bound, walk_length-append graph to_from.1 (k ∷ []), to_from.4))
 
 -- greatest lengths are the least potential
-pub lengths_least : (p : ℕ → ℤ) (nodes : ℕ) (graph : List Arc) (v : ℕ) (z : ℤ) → IsGreatestLength nodes graph v z → All (Within p) graph → ((u : ℕ) → u < nodes → pos 0 ≤ℤ p u) → z ≤ℤ p v
+pub lengths_least : (p : ℕ → ℤ) (nodes : ℕ) (graph : List Arc) (v : ℕ) (z : ℤ) → IsGreatestLength nodes graph v z → All (Within p) graph
+    → ((u : ℕ) → u < nodes → pos 0 ≤ℤ p u) → z ≤ℤ p v
 lengths_least p nodes graph v z greatest all above =
     let to = greatest.reached in
     let rises = walk_rises p graph to.0 v to.1 all to.3 in

@@ -4,7 +4,7 @@ use Rattle.std.proofs.lemmas.Int.{ints}
 use Rattle.std.proofs.lemmas.List.{reverse-append, get_or-replicate, length-replicate}
 use Rattle.flow_solve.specs.declared.arc.Arc.{Arc}
 use Rattle.flow_solve.specs.Walk.{at, IsGraph, IsWalk, walk_length, IsGreatestLength, HasPositiveCycle}
-use Rattle.flow_solve.specs.Rounds.{IsRound, After, BoundsWalks}
+use Rattle.flow_solve.specs.machine.Rounds.{IsRound, After, BoundsWalks}
 use Rattle.flow_solve.proofs.RoundLemmas.{arc_in, bounds_none, bounds_more, after_size, after_small, after_reached, still_bounds}
 
 -- after n rounds
@@ -21,8 +21,10 @@ search_start graph nodes =
     let zeros : (v : ℕ) → v < nodes → at (replicate nodes (pos 0)) v ≡ pos 0 = λ v lt. get_or-replicate {A = ℤ} nodes v (pos 0) (pos 0) lt in
     record { after = (size, zeros); count = refl; bounds = bounds_none graph nodes (replicate nodes (pos 0)) size zeros; risen = tt; none = refl }
 
-pub search_more : (graph : List Arc) (nodes n v : ℕ) (old new : List ℤ) (last : List (List (Option ℕ))) (taken : List (Option ℕ)) (raised : Option ℕ) → IsGraph nodes graph
-    → IsSearch graph nodes n old last raised → IsRound graph old taken new → v < nodes → at old v <ℤ at new v → IsSearch graph nodes (n + 1) new (last ++ taken ∷ []) (Some v)
+pub search_more : (graph : List Arc) (nodes n v : ℕ) (old new : List ℤ) (last : List (List (Option ℕ))) (taken : List (Option ℕ)) (raised : Option ℕ)
+    → IsGraph nodes graph
+    → IsSearch graph nodes n old last raised → IsRound graph old taken new → v < nodes → at old v <ℤ at new v
+    → IsSearch graph nodes (n + 1) new (last ++ taken ∷ []) (Some v)
 search_more graph nodes n v old new last taken raised is s round lt up =
     let size = after_size graph nodes (reverse last) old s.after in
     record {
@@ -38,7 +40,8 @@ walk_from graph nodes s t [] is w lt = omega (arith, w)
 walk_from graph nodes s t (k ∷ walk) is w lt = omega (arith, w.1, (arc_in nodes graph k is w.0).0)
 
 -- a round that changes nothing ends the search
-pub search_still : (graph : List Arc) (nodes n : ℕ) (old new : List ℤ) (last : List (List (Option ℕ))) (taken : List (Option ℕ)) (raised : Option ℕ) → IsGraph nodes graph
+pub search_still : (graph : List Arc) (nodes n : ℕ) (old new : List ℤ) (last : List (List (Option ℕ))) (taken : List (Option ℕ)) (raised : Option ℕ)
+    → IsGraph nodes graph
     → IsSearch graph nodes n old last raised → IsRound graph old taken new → ((v : ℕ) → v < nodes → at new v ≡ at old v)
     → ((length old ≡ nodes) × ((v : ℕ) → v < nodes → IsGreatestLength nodes graph v (at old v))) × (HasPositiveCycle graph → ⊥)
 search_still graph nodes n old new last taken raised is s round still =
@@ -48,7 +51,8 @@ search_still graph nodes n old new last taken raised is s round still =
         size,
         λ v lt. record {
           reached = after_reached graph nodes (reverse last) old is s.after v lt;
-          bound = λ f w walk. let start = (after_small graph nodes (reverse last) old is s.after f (walk_from graph nodes f v w is walk lt)).0 in let end = within f v w walk in omega (arith, ints);
+          bound = λ f w walk. let start = (after_small graph nodes (reverse last) old is s.after f (walk_from graph nodes f v w is walk lt)).0
+              in let end = within f v w walk in omega (arith, ints);
         },
       ),
       λ cycle. let round_trip = within cycle.1.0 cycle.1.0 cycle.0 cycle.1.1 in let positive = cycle.1.2 in omega (arith, ints),

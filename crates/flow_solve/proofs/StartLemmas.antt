@@ -9,12 +9,13 @@ use Rattle.delay_net.specs.Shape.{IsNet}
 use Rattle.delay_net.specs.Windows.{MeetsWindows, at_least_0, total_storage}
 use Rattle.delay_net.specs.Certificate.{sum_at, sum_read, is_read, width_if_read, IsBalanced, value_of}
 use Rattle.delay_net.specs.declared.net.Read.{Read}
-use Rattle.flow_solve.specs.Residual.{residual, window_arc, storage_arc, window_back, storage_back}
-use Rattle.flow_solve.proofs.Slack.{value_and_slack}
+use Rattle.flow_solve.specs.machine.Residual.{residual, window_arc, storage_arc, window_back, storage_back}
+use Rattle.delay_net.proofs.CallerLemmas.{value_and_slack}
 
 pub residual_step : (n : ℕ) (reads : List Read) (hold need : List ℕ) (i : ℕ) (d : Read) → i < length reads → i < length hold → i < length need
     → residual n (drop i reads) (drop i hold) (drop i need)
-    ≡ window_arc (get_or reads i d) ∷ storage_arc n (get_or reads i d) ∷ window_back (get_or reads i d) (get_or need i 0) ∷ storage_back n (get_or reads i d) (get_or hold i 0)
+    ≡ window_arc (get_or reads i d) ∷ storage_arc n (get_or reads i d) ∷ window_back (get_or reads i d) (get_or need i 0)
+    ∷ storage_back n (get_or reads i d) (get_or hold i 0)
     ∷ residual n (drop (i + 1) reads) (drop (i + 1) hold) (drop (i + 1) need)
 unfolding residual
 residual_step n reads hold need i d lt lh ln =
@@ -28,7 +29,8 @@ residual_none n reads hold need i past = ap (λ rs. residual n rs (drop i hold) 
 
 -- one more amount
 sum_at_push : (key : Read → ℕ) (t : ℕ) (reads : List Read) (amounts : List ℕ) (x : ℕ) (d : Read) → length amounts < length reads
-    → sum_at key t (take (suc (length amounts)) reads) (amounts ++ x ∷ []) ≡ sum_at key t (take (length amounts) reads) amounts + cond (eqb (key (get_or reads (length amounts) d)) t) x 0
+    → sum_at key t (take (suc (length amounts)) reads) (amounts ++ x ∷ [])
+    ≡ sum_at key t (take (length amounts) reads) amounts + cond (eqb (key (get_or reads (length amounts) d)) t) x 0
 unfolding sum_at
 sum_at_push key t [] amounts x d lt = absurd (omega arith)
 sum_at_push key t (r ∷ reads) [] x d lt = omega arith
@@ -54,7 +56,8 @@ pub amounts_more : (weights : List ℕ) (reads : List Read) (amounts : List ℕ)
 amounts_more weights reads amounts i x t d size lt amount before =
     let of : ℕ = (get_or reads i d).of in
     let pushed : sum_at (λ r. r.of) t (take (suc i) reads) (amounts ++ x ∷ []) ≡ sum_at (λ r. r.of) t (take i reads) amounts + cond (eqb of t) x 0 =
-    subst (λ n. sum_at (λ r. r.of) t (take (suc n) reads) (amounts ++ x ∷ []) ≡ sum_at (λ r. r.of) t (take n reads) amounts + cond (eqb (get_or reads n d).of t) x 0) size (sum_at_push (λ r. r.of) t reads amounts x d (omega arith)) in
+    subst (λ n. sum_at (λ r. r.of) t (take (suc n) reads) (amounts ++ x ∷ [])
+    ≡ sum_at (λ r. r.of) t (take n reads) amounts + cond (eqb (get_or reads n d).of t) x 0) size (sum_at_push (λ r. r.of) t reads amounts x d (omega arith)) in
     let chosen = choose (is_read (take i reads) t) (eqb of t) (sum_at (λ r. r.of) t (take i reads) amounts) (slice_index weights t) x before
     (λ here. subst (λ u. x ≡ cond (is_read (take i reads) u) 0 (slice_index weights u)) (same_from_test of t here) amount) in
     ap (λ n. sum_at (λ r. r.of) t (take n reads) (amounts ++ x ∷ [])) add-one-of
@@ -86,7 +89,8 @@ marks_more reads met i t d lt in_table before =
     ∙ sym (ap (λ b. is_read (take i reads) t || b) other) ∙ sym (list_any_more (λ r. eqb r.of t) reads i d lt))
     (cases_eq of t)
 
-pub amounts_balanced : (weights : List ℕ) (reads : List Read) (amounts : List ℕ) → ((t : ℕ) → sum_read t reads amounts ≡ width_if_read weights reads t) → IsBalanced weights reads amounts amounts
+pub amounts_balanced : (weights : List ℕ) (reads : List Read) (amounts : List ℕ) → ((t : ℕ) → sum_read t reads amounts ≡ width_if_read weights reads t)
+    → IsBalanced weights reads amounts amounts
 amounts_balanced weights reads amounts told = record {
   held = λ t lt is. told t ∙ if_read (is_read reads t) (slice_index weights t) is;
   even = λ t lt. omega (arith, told t);
@@ -121,7 +125,8 @@ stairs_meets weights reads net = λ k d lt.
 abbrev pub value_bound : List ℕ → List Read → ℕ
 value_bound weights reads = total_storage weights reads (stairs 0 (length weights))
 
-pub value_within : (weights : List ℕ) (reads : List Read) (hold need : List ℕ) → IsNet weights reads → IsBalanced weights reads hold need → value_of reads hold need ≤ℤ pos (value_bound weights reads)
+pub value_within : (weights : List ℕ) (reads : List Read) (hold need : List ℕ) → IsNet weights reads → IsBalanced weights reads hold need
+    → value_of reads hold need ≤ℤ pos (value_bound weights reads)
 value_within weights reads hold need net balanced =
     let sum = value_and_slack weights reads hold need (stairs 0 (length weights)) net.order balanced (stairs_meets weights reads net) in
     omega (arith, ints)

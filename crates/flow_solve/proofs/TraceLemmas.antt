@@ -6,7 +6,7 @@ use Rattle.std.proofs.lemmas.List.{take-append-drop, take-take, length-take-le, 
 use Rattle.std.proofs.lemmas.Bool.{cases_eq, cases_lt}
 use Rattle.flow_solve.specs.declared.arc.Arc.{Arc}
 use Rattle.flow_solve.specs.Walk.{arc_at, IsWalk, walk_length, IsPositiveCycle, NoRepeat}
-use Rattle.flow_solve.specs.Rounds.{at, IsGraph, ComesBy, After}
+use Rattle.flow_solve.specs.machine.Rounds.{at, IsGraph, ComesBy, After}
 use Rattle.flow_solve.proofs.RoundLemmas.{arc_in, after_size}
 use Rattle.flow_solve.proofs.WalkLemmas.{walk_join, walk_length-append, walk_cut}
 
@@ -16,7 +16,8 @@ walk_end graph s a b [] w x = sym w ∙ x
 walk_end graph s a b (k ∷ walk) w x = walk_end graph (arc_at graph k).to a b walk w.2 x.2
 
 -- the first arcs of a walk
-pub walk_front : (graph : List Arc) (s t i : ℕ) (walk : List ℕ) → IsWalk graph s walk t → i < length walk → IsWalk graph s (take (suc i) walk) (arc_at graph (get_or walk i 0)).to
+pub walk_front : (graph : List Arc) (s t i : ℕ) (walk : List ℕ) → IsWalk graph s walk t → i < length walk
+    → IsWalk graph s (take (suc i) walk) (arc_at graph (get_or walk i 0)).to
 walk_front graph s t i [] w lt = absurd (omega arith)
 walk_front graph s t zero (k ∷ walk) w lt = (w.0, w.1, refl)
 walk_front graph s t (suc i) (k ∷ walk) w lt = (w.0, w.1, walk_front graph (arc_at graph k).to t i walk w.2 (omega arith))
@@ -27,7 +28,8 @@ arc_in_walk graph s t zero (k ∷ walk) w lt = w.0
 arc_in_walk graph s t (suc i) (k ∷ walk) w lt = arc_in_walk graph (arc_at graph k).to t i walk w.2 (omega arith)
 
 -- a walk in three parts, whose middle part leads back to its own beginning
-three_parts : (graph : List Arc) (from u target n : ℕ) (z : ℤ) (p c s : List ℕ) → IsWalk graph from p u → IsWalk graph from (p ++ c) u → IsWalk graph from ((p ++ c) ++ s) target
+three_parts : (graph : List Arc) (from u target n : ℕ) (z : ℤ) (p c s : List ℕ) → IsWalk graph from p u → IsWalk graph from (p ++ c) u
+    → IsWalk graph from ((p ++ c) ++ s) target
     → 0 < length c → length ((p ++ c) ++ s) ≤ n → walk_length graph ((p ++ c) ++ s) ≡ z
     → ((f : ℕ) (w : List ℕ) → IsWalk graph f w target → length w < n → walk_length graph w <ℤ z)
     → IsPositiveCycle graph c
@@ -103,7 +105,8 @@ seen_start graph nodes from walk lt = record {
       (λ is. at_from v p is (ap (λ u. get_or (set (replicate nodes None) from (Some 0)) u None) is ∙ e))
       (λ ne. absurd (nowhere v p (sym (get_or-set_other (replicate nodes None) from v (Some 0) None (λ e'. ne (sym e'))) ∙ e)))
       (cases_eq from v);
-  count = filled-set (replicate nodes None) from 0 (omega (arith, size)) (get_or-replicate {A = Option ℕ} nodes from None None lt) ∙ ap (λ n. n + 1) (filled_none nodes);
+  count = filled-set (replicate nodes None) from 0 (omega (arith, size)) (get_or-replicate {A = Option ℕ} nodes from None None lt)
+      ∙ ap (λ n. n + 1) (filled_none nodes);
   marked = λ p lt'. absurd (omega arith);
 }
   where
@@ -128,7 +131,8 @@ seen_more graph nodes from to i walk seen w lt in_range new before = record {
   size = length-set seen node (Some (i + 1)) ∙ before.size;
   places = λ v p e. ⊎_elim
       (λ is. here v p is (ap (λ u. get_or (set seen node (Some (i + 1))) u None) is ∙ e))
-      (λ ne. let earlier = before.places v p (sym (get_or-set_other seen node v (Some (i + 1)) None (λ e'. ne (sym e'))) ∙ e) in (omega (arith, earlier.0), earlier.1))
+      (λ ne. let earlier = before.places v p (sym (get_or-set_other seen node v (Some (i + 1)) None (λ e'. ne (sym e'))) ∙ e)
+      in (omega (arith, earlier.0), earlier.1))
       (cases_eq node v);
   count = filled-set seen node (i + 1) (omega (arith, before.size, in_range)) new ∙ ap (λ n. n + 1) before.count;
   marked = below_more (λ p. get_or (set seen node (Some (i + 1))) (arc_at graph (get_or walk p 0)).to None ≡ Some (p + 1)) i
@@ -139,14 +143,17 @@ seen_more graph nodes from to i walk seen w lt in_range new before = record {
     node : ℕ
     node = (arc_at graph (get_or walk i 0)).to
 
-    earlier : (p : ℕ) → get_or seen (arc_at graph (get_or walk p 0)).to None ≡ Some (p + 1) → get_or (set seen node (Some (i + 1))) (arc_at graph (get_or walk p 0)).to None ≡ Some (p + 1)
+    earlier : (p : ℕ) → get_or seen (arc_at graph (get_or walk p 0)).to None ≡ Some (p + 1)
+        → get_or (set seen node (Some (i + 1))) (arc_at graph (get_or walk p 0)).to None ≡ Some (p + 1)
     earlier p e = get_or-set_other seen node (arc_at graph (get_or walk p 0)).to (Some (i + 1)) None
         (λ same. let h : None ≡ Some (p + 1) = sym new ∙ ap (λ u. get_or seen u None) (sym same) ∙ e in cc) ∙ e
 
     here : (v p : ℕ) → node ≡ v → get_or (set seen node (Some (i + 1))) node None ≡ Some p → (p ≤ i + 1) × IsWalk graph from (take p walk) v
     here v p is e =
-        let place_is : i + 1 ≡ p = let h : Some (i + 1) ≡ Some p = sym (get_or-set_same seen node (Some (i + 1)) None (omega (arith, before.size, in_range))) ∙ e in cc in
-        subst (λ q. (q ≤ i + 1) × IsWalk graph from (take q walk) v) place_is (omega arith, subst (IsWalk graph from (take (i + 1) walk)) is (rw add-one (walk_front graph from to i walk w lt)))
+        let place_is : i + 1 ≡ p = let h : Some (i + 1) ≡ Some p = sym (get_or-set_same seen node (Some (i + 1)) None (omega (arith, before.size, in_range)))
+        ∙ e in cc in
+        subst (λ q. (q ≤ i + 1) × IsWalk graph from (take q walk) v) place_is
+        (omega arith, subst (IsWalk graph from (take (i + 1) walk)) is (rw add-one (walk_front graph from to i walk w lt)))
 
 pub seen_again : (graph : List Arc) (nodes from to i first : ℕ) (walk : List ℕ) (seen : List (Option ℕ)) → IsWalk graph from walk to → i < length walk
     → get_or seen (arc_at graph (get_or walk i 0)).to None ≡ Some first → Seen graph nodes from walk i seen
@@ -168,11 +175,13 @@ pub record Traces (graph : List Arc) (nodes : ℕ) (rounds : List (List (Option 
   pub arcs : length back + length rounds ≤ n
 
 pub trace_kept : (graph : List Arc) (nodes : ℕ) (rounds rounds' : List (List (Option ℕ))) (last : List (Option ℕ)) (back : List ℕ) (from to : ℕ) (z : ℤ) (n : ℕ)
-    → rounds ≡ rounds' ++ last ∷ [] → slice_index_or last from None ≡ None → Traces graph nodes rounds back from to z n → Traces graph nodes rounds' back from to z n
+    → rounds ≡ rounds' ++ last ∷ [] → slice_index_or last from None ≡ None → Traces graph nodes rounds back from to z n
+    → Traces graph nodes rounds' back from to z n
 trace_kept graph nodes rounds rounds' last back from to z n e none t =
     let after = subst (λ rs. After graph nodes rs t.old) (ap reverse e ∙ reverse-append rounds' (last ∷ [])) t.after in
     let size = after_size graph nodes (reverse rounds') after.0 after.2 in
-    let same : at t.old from ≡ at after.0 from = subst (ComesBy graph after.0 from (at t.old from)) none (after.1.comes from (omega (arith, size, t.in_range))) in
+    let same : at t.old from ≡ at after.0 from = subst (ComesBy graph after.0 from (at t.old from)) none
+    (after.1.comes from (omega (arith, size, t.in_range))) in
     record {
       old = after.0;
       after = after.2;
@@ -182,8 +191,10 @@ trace_kept graph nodes rounds rounds' last back from to z n e none t =
       arcs = omega (arith, t.arcs, ap length e, length-append rounds' (last ∷ []));
     }
 
-pub trace_taken : (graph : List Arc) (nodes : ℕ) (rounds rounds' : List (List (Option ℕ))) (last : List (Option ℕ)) (back : List ℕ) (from to : ℕ) (z : ℤ) (n k : ℕ) → IsGraph nodes graph
-    → rounds ≡ rounds' ++ last ∷ [] → slice_index_or last from None ≡ Some k → Traces graph nodes rounds back from to z n → Traces graph nodes rounds' (back ++ k ∷ []) (arc_at graph k).from to z n
+pub trace_taken : (graph : List Arc) (nodes : ℕ) (rounds rounds' : List (List (Option ℕ))) (last : List (Option ℕ)) (back : List ℕ) (from to : ℕ) (z : ℤ)
+    (n k : ℕ) → IsGraph nodes graph
+    → rounds ≡ rounds' ++ last ∷ [] → slice_index_or last from None ≡ Some k → Traces graph nodes rounds back from to z n
+    → Traces graph nodes rounds' (back ++ k ∷ []) (arc_at graph k).from to z n
 trace_taken graph nodes rounds rounds' last back from to z n k is e some t =
     let after = subst (λ rs. After graph nodes rs t.old) (ap reverse e ∙ reverse-append rounds' (last ∷ [])) t.after in
     let size = after_size graph nodes (reverse rounds') after.0 after.2 in
@@ -209,12 +220,14 @@ none_left None h = refl
 none_left (Some x) h = absurd (h x refl)
 
 -- between two visits of one node, no arc stands twice
-pub seen_once : (graph : List Arc) (nodes from i first : ℕ) (walk : List ℕ) (seen : List (Option ℕ)) → get_or seen (arc_at graph (get_or walk i 0)).to None ≡ Some first
+pub seen_once : (graph : List Arc) (nodes from i first : ℕ) (walk : List ℕ) (seen : List (Option ℕ))
+    → get_or seen (arc_at graph (get_or walk i 0)).to None ≡ Some first
     → Seen graph nodes from walk i seen → (p q : ℕ) → first ≤ p → p < q → q < i + 1 → get_or walk p 0 ≢ get_or walk q 0
 seen_once graph nodes from i first walk seen again s = λ p q past rising below same.
     ⊎_elim
     (λ last.
-    let to_same : (arc_at graph (get_or walk p 0)).to ≡ (arc_at graph (get_or walk i 0)).to = ap (λ k. (arc_at graph k).to) (same ∙ ap (λ n. get_or walk n 0) last) in
+    let to_same : (arc_at graph (get_or walk p 0)).to ≡ (arc_at graph (get_or walk i 0)).to = ap (λ k. (arc_at graph k).to)
+    (same ∙ ap (λ n. get_or walk n 0) last) in
     let h : Some (p + 1) ≡ Some first = sym (s.marked p (omega arith)) ∙ ap (λ u. get_or seen u None) to_same ∙ again in
     let e : p + 1 ≡ first = cc in omega arith)
     (λ not_last.
@@ -227,6 +240,8 @@ pub part_once : (walk : List ℕ) (first again : ℕ) → first < again → agai
     → ((p q : ℕ) → first ≤ p → p < q → q < again → get_or walk p 0 ≢ get_or walk q 0) → NoRepeat (drop first (take again walk))
 part_once walk first again lt le once = λ p q rising below same.
     let size : length (drop first (take again walk)) ≡ again - first = omega (arith, length-drop first (take again walk), length-take-le again walk le) in
-    let at_p : get_or (drop first (take again walk)) p 0 ≡ get_or walk (first + p) 0 = get_or-drop first (take again walk) p 0 ∙ get_or-take again walk (first + p) 0 (omega arith) in
-    let at_q : get_or (drop first (take again walk)) q 0 ≡ get_or walk (first + q) 0 = get_or-drop first (take again walk) q 0 ∙ get_or-take again walk (first + q) 0 (omega arith) in
+    let at_p : get_or (drop first (take again walk)) p 0 ≡ get_or walk (first + p) 0 = get_or-drop first (take again walk) p 0
+    ∙ get_or-take again walk (first + p) 0 (omega arith) in
+    let at_q : get_or (drop first (take again walk)) q 0 ≡ get_or walk (first + q) 0 = get_or-drop first (take again walk) q 0
+    ∙ get_or-take again walk (first + q) 0 (omega arith) in
     once (first + p) (first + q) (omega arith) (omega arith) (omega arith) (sym at_p ∙ same ∙ at_q)

@@ -1,6 +1,4 @@
+pub mod Limits
 pub mod Walk
-pub mod Rounds
 pub mod LeastPlan
-pub mod Residual
-pub mod Conserve
-pub mod Steps
+pub mod machine

@@ -1,6 +1,7 @@
 -- Walks in a graph whose arcs have lengths. A walk is a list of arc numbers.
 use Rattle.std.specs.Prelude.{◌≡◌, ◌≢◌, slice_index, ℕ, ◌<◌, ◌≤◌, ◌^◌, ℤ, pos, neg_ℤ, ◌+ℤ◌, ◌<ℤ◌, ◌≤ℤ◌, List, [], ◌∷◌, length}
 use Rattle.std.specs.List.{All, slice_index_or}
+use Rattle.flow_solve.specs.Limits.{most_nodes, most_arcs, most_arc_length, most_length}
 use Rattle.flow_solve.specs.declared.arc.Arc.{Arc}
 use Rattle.flow_solve.specs.declared.arc.Longest.{Longest}
 use Rattle.flow_solve.specs.declared.arc.Longest.TheVariants.{Lengths, Cycle}
@@ -9,15 +10,16 @@ use Rattle.flow_solve.specs.declared.arc.Longest.TheVariants.{Lengths, Cycle}
 abbrev pub at : List ℤ → ℕ → ℤ
 at lengths node = slice_index_or lengths node (pos 0)
 
--- an arc between nodes of the graph, with a length within plus or minus 2 ^ 42
+-- an arc between nodes of the graph, with a length within the limit
 abbrev pub IsArc : ℕ → Arc → Type 0
 IsArc nodes arc =
-    (arc.from < nodes) × (arc.to < nodes) × (neg_ℤ (pos (2 ^ 42)) ≤ℤ arc.length) × (arc.length ≤ℤ pos (2 ^ 42))
+    (arc.from < nodes) × (arc.to < nodes) × (neg_ℤ (pos most_arc_length) ≤ℤ arc.length)
+    × (arc.length ≤ℤ pos most_arc_length)
 
--- a graph of at most 1,024 nodes and 65,536 arcs
+-- a graph within the limits
 pub record IsGraph (nodes : ℕ) (graph : List Arc) : Type 0 where
-  pub few_nodes : nodes ≤ 1024
-  pub few_arcs : length graph ≤ 65536
+  pub few_nodes : nodes ≤ most_nodes
+  pub few_arcs : length graph ≤ most_arcs
   pub arcs : All (IsArc nodes) graph
 
 -- the arc with a number
@@ -37,7 +39,8 @@ walk_length graph (k ∷ walk) = (arc_at graph k).length +ℤ walk_length graph 
 
 -- the greatest length of a walk that ends at a node
 pub record IsGreatestLength (nodes : ℕ) (graph : List Arc) (node : ℕ) (greatest : ℤ) : Type 0 where
-  pub reached : (from : ℕ) × (walk : List ℕ) × (from < nodes) × IsWalk graph from walk node × (walk_length graph walk ≡ greatest)
+  pub reached : (from : ℕ) × (walk : List ℕ) × (from < nodes) × IsWalk graph from walk node
+      × (walk_length graph walk ≡ greatest)
   pub bound : (from : ℕ) (walk : List ℕ) → IsWalk graph from walk node → walk_length graph walk ≤ℤ greatest
 
 -- a closed walk of positive length
@@ -59,11 +62,12 @@ IsCycle (Cycle walk) = Unit {0}
 -- the answer is right: the greatest length of a walk to each node, or a positive cycle
 abbrev pub TellsWalks : ℕ → List Arc → Longest → Type 0
 TellsWalks nodes graph (Lengths lengths) =
-    (length lengths.items ≡ nodes) × ((node : ℕ) → node < nodes → IsGreatestLength nodes graph node (at lengths.items node))
+    (length lengths.items ≡ nodes) × ((node : ℕ) → node < nodes
+    → IsGreatestLength nodes graph node (at lengths.items node))
 TellsWalks nodes graph (Cycle walk) = IsPositiveCycle graph walk.items
 
--- greatest lengths are from 0 to 2 ^ 52; a cycle has each arc once, and at most 1,024 of them
+-- greatest lengths are from 0 to the limit; a cycle has each arc once, and at most as many as a graph has nodes
 abbrev pub IsSimple : ℕ → Longest → Type 0
 IsSimple nodes (Lengths lengths) =
-    (node : ℕ) → node < nodes → (pos 0 ≤ℤ at lengths.items node) × (at lengths.items node ≤ℤ pos (2 ^ 52))
-IsSimple nodes (Cycle walk) = NoRepeat walk.items × (length walk.items ≤ 1024)
+    (node : ℕ) → node < nodes → (pos 0 ≤ℤ at lengths.items node) × (at lengths.items node ≤ℤ pos most_length)
+IsSimple nodes (Cycle walk) = NoRepeat walk.items × (length walk.items ≤ most_nodes)

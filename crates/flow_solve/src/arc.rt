@@ -1,5 +1,5 @@
 /// An arc of a graph, from one node to another.
-#[derive(Clone, Copy, Debug, PartialEq, Eq)]
+#[derive(Clone, Copy)]
 pub struct Arc {
     /// The node that it leaves.
     pub from: u32,

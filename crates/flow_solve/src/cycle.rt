@@ -1,6 +1,7 @@
 ghost use Rattle.std.specs.Prelude.{◌≡◌, ◌≢◌, slice_index, ℕ, ◌<◌, ◌≤◌, ◌<ℤ◌, List, length, take, reverse, replicate, IfOk};
+ghost use Rattle.flow_solve.specs.Limits.{most_nodes};
 ghost use Rattle.flow_solve.specs.Walk.{at, IsGraph, IsWalk, walk_length, IsPositiveCycle, NoRepeat};
-ghost use Rattle.flow_solve.specs.Rounds.{After};
+ghost use Rattle.flow_solve.specs.machine.Rounds.{After};
 
 use crate::Arc;
 use crate::round::no_arcs;
@@ -20,12 +21,13 @@ pub(crate) fn repeated(
     requires from { from < nodes }
     requires walk { (to : ℕ) × IsWalk graph.now from walk.now to }
     requires long { nodes ≤ length walk.now }
-    requires short { length walk.now ≤ 1024 }
+    requires short { length walk.now ≤ most_nodes }
     requires seen { seen.old ≡ replicate nodes None }
     ensures rises { result.0 < result.1 }
     ensures within { result.1 ≤ length walk.now }
     ensures once { (p q : ℕ) → result.0 ≤ p → p < q → q < result.1 → slice_index walk.now p ≢ slice_index walk.now q }
-    ensures same { (u : ℕ) × IsWalk graph.now from (take result.0 walk.now) u × IsWalk graph.now from (take result.1 walk.now) u }
+    ensures same { (u : ℕ) × IsWalk graph.now from (take result.0 walk.now) u
+        × IsWalk graph.now from (take result.1 walk.now) u }
 {
     seen[from as usize] = Some(0);
     for (i, k) in walk.iter().enumerate() {
@@ -55,13 +57,11 @@ pub(crate) fn positive_cycle(
         → length walk < nodes → walk_length graph.now walk <ℤ at rounds.lengths.items to }
     ensures cycle { IfOk result (λ walk. IsPositiveCycle graph.now walk.items) }
     ensures once { IfOk result (λ walk. NoRepeat walk.items) }
-    ensures short { IfOk result (λ walk. length walk.items ≤ 1024) }
+    ensures short { IfOk result (λ walk. length walk.items ≤ most_nodes) }
 {
     let Traced { from, walk } = trace(alloc, nodes, graph, rounds, to)?;
     let mut seen = no_arcs(alloc, nodes)?;
     let (first, again) = repeated(nodes, graph, from, &walk, &mut seen);
-    let Ok(cycle) = Vec::from_slice(alloc, &walk[first as usize..again as usize]) else {
-        return Err(NoMemory);
-    };
+    let cycle = Vec::from_slice(alloc, &walk[first as usize..again as usize])?;
     Ok(cycle)
 }

@@ -4,6 +4,7 @@
 mod arc;
 mod cycle;
 mod laws;
+mod limits;
 mod proposal;
 mod residual;
 mod round;
@@ -17,10 +18,6 @@ mod walks;
 
 pub use arc::{Arc, Longest};
 pub use laws::least_plans_meet;
+pub use limits::{MOST_ARC_LENGTH, MOST_ARCS, MOST_NODES};
 pub use solver::solve;
 pub use walks::longest;
-
-#[cfg(test)]
-mod small_nets;
-#[cfg(test)]
-mod tests;

@@ -1,6 +1,7 @@
 ghost use Rattle.std.specs.Prelude.{◌≡◌, ◌<◌, ◌≤◌, length, IfOk};
 ghost use Rattle.std.specs.List.{All};
-ghost use Rattle.flow_solve.specs.Steps.{IsStep, AreSteps};
+ghost use Rattle.delay_net.specs.Limits.{most_tensors};
+ghost use Rattle.flow_solve.specs.machine.Steps.{IsStep, AreSteps};
 
 use crate::search::{longest_steps, room};
 use crate::steps::{Kind, Step, Steps, ordered};
@@ -63,7 +64,7 @@ fn send_some(
     need: &mut [u32],
 ) -> Result<u32, NoMemory>
     requires steps { AreSteps (length hold.old) steps.now }
-    requires tensors { tensors ≤ 512 }
+    requires tensors { tensors ≤ most_tensors }
     requires tensor { tensor < tensors }
     requires needs { length need.old ≡ length hold.old }
     ensures { IfOk result (λ units. units ≤ asked) }
@@ -87,7 +88,7 @@ fn send_width(
     need: &mut [u32],
 ) -> Result<(), NoMemory>
     requires steps { AreSteps (length hold.old) steps.now }
-    requires tensors { tensors ≤ 512 }
+    requires tensors { tensors ≤ most_tensors }
     requires tensor { tensor < tensors }
     requires needs { length need.old ≡ length hold.old }
 {
@@ -108,9 +109,7 @@ fn no_amounts(alloc: Global, net: &Net) -> Result<Vec<u32>, NoMemory>
 {
     let mut amounts = Vec::new(alloc);
     for _ in net.reads() {
-        let Ok(()) = amounts.push(0) else {
-            return Err(NoMemory);
-        };
+        amounts.push(0)?;
     }
     Ok(amounts)
 }

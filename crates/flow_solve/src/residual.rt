@@ -1,6 +1,6 @@
 ghost use Rattle.std.specs.Prelude.{◌≡◌, ◌+◌, ◌<◌, ◌^◌, neg_ℤ, [], ◌∷◌, ◌++◌, length, IfOk, OnOk};
 ghost use Rattle.delay_net.specs.Shape.{HasSmallOffset};
-ghost use Rattle.flow_solve.specs.Residual.{residual, window_arc, storage_arc, window_back, storage_back};
+ghost use Rattle.flow_solve.specs.machine.Residual.{residual, window_arc, storage_arc, window_back, storage_back};
 
 use crate::Arc;
 use delay_net::{Net, NoMemory, Read};
@@ -81,18 +81,10 @@ fn add_arcs(
     ensures { OnOk result (arcs.new.items ≡ arcs.old.items
         ++ window_arc read ∷ storage_arc tensors read ∷ window_back read need ∷ storage_back tensors read hold ∷ []) }
 {
-    let Ok(()) = arcs.push(window_arc(read)) else {
-        return Err(NoMemory);
-    };
-    let Ok(()) = arcs.push(storage_arc(tensors, read)) else {
-        return Err(NoMemory);
-    };
-    let Ok(()) = arcs.push(window_back(read, need)) else {
-        return Err(NoMemory);
-    };
-    let Ok(()) = arcs.push(storage_back(tensors, read, hold)) else {
-        return Err(NoMemory);
-    };
+    arcs.push(window_arc(read))?;
+    arcs.push(storage_arc(tensors, read))?;
+    arcs.push(window_back(read, need))?;
+    arcs.push(storage_back(tensors, read, hold))?;
     Ok(())
 }
 

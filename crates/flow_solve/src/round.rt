@@ -1,6 +1,7 @@
 ghost use Rattle.std.specs.Prelude.{◌≡◌, ℕ, ◌<◌, ◌^◌, pos, neg_ℤ, ◌+ℤ◌, ◌<ℤ◌, ◌≤ℤ◌, length, replicate, IfOk, IfSome, IfNone};
 ghost use Rattle.std.specs.List.{slice_index_or};
-ghost use Rattle.flow_solve.specs.Rounds.{at, IsGraph, IsRound};
+ghost use Rattle.flow_solve.specs.Limits.{most_arc_length, most_length};
+ghost use Rattle.flow_solve.specs.machine.Rounds.{at, IsGraph, IsRound};
 
 use crate::Arc;
 use delay_net::NoMemory;
@@ -44,9 +45,9 @@ pub(crate) struct Round {
 // The length of a walk that goes on by an arc.
 fn gone_on(arc: Arc, old: &[i64]) -> i64
     requires end { arc.from < length old.now }
-    requires small { (neg_ℤ (pos (2 ^ 42)) ≤ℤ arc.length) × (arc.length ≤ℤ pos (2 ^ 42)) }
+    requires small { (neg_ℤ (pos most_arc_length) ≤ℤ arc.length) × (arc.length ≤ℤ pos most_arc_length) }
     requires from { pos 0 ≤ℤ at old.now arc.from }
-    requires to { at old.now arc.from ≤ℤ pos (2 ^ 52) }
+    requires to { at old.now arc.from ≤ℤ pos most_length }
     ensures { result ≡ at old.now arc.from +ℤ arc.length }
 {
     old[arc.from as usize] + arc.length
@@ -63,7 +64,7 @@ fn take_arcs(
     requires graph { IsGraph nodes graph.now }
     requires size { length old.now ≡ nodes }
     requires from { (v : ℕ) → v < nodes → pos 0 ≤ℤ at old.now v }
-    requires to { (v : ℕ) → v < nodes → at old.now v ≤ℤ pos (2 ^ 52) }
+    requires to { (v : ℕ) → v < nodes → at old.now v ≤ℤ pos most_length }
     requires lengths { lengths.old ≡ old.now }
     requires last { last.old ≡ replicate nodes None }
     ensures round { IsRound graph.now old.now last.new lengths.new }
@@ -93,14 +94,14 @@ pub(crate) fn next_round(
     requires graph { IsGraph nodes graph.now }
     requires size { length old.now ≡ nodes }
     requires from { (v : ℕ) → v < nodes → pos 0 ≤ℤ at old.now v }
-    requires to { (v : ℕ) → v < nodes → at old.now v ≤ℤ pos (2 ^ 52) }
+    requires to { (v : ℕ) → v < nodes → at old.now v ≤ℤ pos most_length }
     ensures round { IfOk result (λ round. IsRound graph.now old.now round.last round.lengths.items) }
-    ensures raised { IfOk result (λ round. IfSome round.raised (λ v. (v < nodes) × (at old.now v <ℤ at round.lengths.items v))) }
-    ensures still { IfOk result (λ round. IfNone round.raised ((v : ℕ) → v < nodes → at round.lengths.items v ≡ at old.now v)) }
+    ensures raised { IfOk result (λ round. IfSome round.raised (λ v. (v < nodes)
+        × (at old.now v <ℤ at round.lengths.items v))) }
+    ensures still { IfOk result (λ round. IfNone round.raised ((v : ℕ) → v < nodes
+        → at round.lengths.items v ≡ at old.now v)) }
 {
-    let Ok(mut lengths) = Vec::from_slice(alloc, old) else {
-        return Err(NoMemory);
-    };
+    let mut lengths = Vec::from_slice(alloc, old)?;
     let mut arcs = no_arcs(alloc, nodes)?;
     let raised = take_arcs(nodes, graph, old, &mut lengths, &mut arcs);
     Ok(Round {
@@ -116,9 +117,7 @@ pub(crate) fn no_arcs(alloc: Global, nodes: u32) -> Result<Vec<Option<u32>>, NoM
 {
     let mut arcs = Vec::new(alloc);
     for _ in 0..nodes {
-        if arcs.push(None).is_err() {
-            return Err(NoMemory);
-        }
+        arcs.push(None)?;
     }
     Ok(arcs)
 }

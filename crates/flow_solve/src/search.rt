@@ -1,7 +1,10 @@
 ghost use Rattle.std.specs.Prelude.{◌≡◌, ℕ, ◌+◌, ◌<◌, ◌≤◌, length, IfOk, IfSome};
 ghost use Rattle.std.specs.List.{All};
-ghost use Rattle.flow_solve.specs.Steps.{IsStep, AreSteps, HasStep, AreMarks};
+ghost use Rattle.delay_net.specs.Limits.{most_tensors};
+ghost use Rattle.flow_solve.specs.Limits.{most_nodes};
+ghost use Rattle.flow_solve.specs.machine.Steps.{IsStep, AreSteps, HasStep, AreMarks};
 
+use crate::limits::MOST_NODES;
 use crate::steps::{Kind, Step, Steps};
 use delay_net::NoMemory;
 use std::alloc::Global;
@@ -46,6 +49,21 @@ fn go_on(step: Step, length: i64, mark: &mut Mark) -> bool
     true
 }
 
+// Goes on by a step, if the amounts let a unit along it and that leads further, and answers whether
+// it does.
+fn try_step(step: Step, so_far: i64, hold: &[u32], need: &[u32], marks: &mut [Mark]) -> bool
+    requires step { IsStep (length hold.now) step }
+    requires needs { length need.now ≡ length hold.now }
+    requires marks { AreMarks (length hold.now) marks.old }
+    ensures { AreMarks (length hold.now) marks.new }
+{
+    if room(step, hold, need) == 0 {
+        return false;
+    }
+    let longer = so_far.saturating_add(step.arc.length);
+    go_on(step, longer, &mut marks[step.arc.to as usize])
+}
+
 // Goes on by the steps that leave a node, the first of these, and answers whether one led further.
 fn go_on_from(
     steps: &[Step],
@@ -65,8 +83,7 @@ fn go_on_from(
         if step.arc.from != node {
             break;
         }
-        let longer = so_far.saturating_add(step.arc.length);
-        if room(*step, hold, need) > 0 && go_on(*step, longer, &mut marks[step.arc.to as usize]) {
+        if try_step(*step, so_far, hold, need, marks) {
             further = true;
         }
     }
@@ -76,7 +93,7 @@ fn go_on_from(
 // Goes on from a node, if its length rose, and answers whether that led further.
 fn visit(steps: &Steps, node: u32, hold: &[u32], need: &[u32], marks: &mut [Mark]) -> bool
     requires steps { AreSteps (length hold.now) steps.now }
-    requires node { node < 1024 }
+    requires node { node < most_nodes }
     requires needs { length need.now ≡ length hold.now }
     requires marks { AreMarks (length hold.now) marks.old }
     ensures { AreMarks (length hold.now) marks.new }
@@ -103,7 +120,7 @@ fn sweep(
     marks: &mut [Mark],
 ) -> bool
     requires steps { AreSteps (length hold.now) steps.now }
-    requires tensors { tensors ≤ 512 }
+    requires tensors { tensors ≤ most_tensors }
     requires needs { length need.now ≡ length hold.now }
     requires marks { AreMarks (length hold.now) marks.old }
     ensures { AreMarks (length hold.now) marks.new }
@@ -124,8 +141,8 @@ fn sweep(
 // many sweeps as a walk without a circle needs at most.
 fn search(steps: &Steps, tensors: u32, from: u32, hold: &[u32], need: &[u32], marks: &mut [Mark])
     requires steps { AreSteps (length hold.now) steps.now }
-    requires tensors { tensors ≤ 512 }
-    requires from { from < 1024 }
+    requires tensors { tensors ≤ most_tensors }
+    requires from { from < most_nodes }
     requires needs { length need.now ≡ length hold.now }
     requires marks { AreMarks (length hold.now) marks.old }
     ensures { AreMarks (length hold.now) marks.new }
@@ -149,23 +166,21 @@ fn walk_back(
     from: u32,
     to: u32,
 ) -> Result<Option<Vec<Step>>, NoMemory>
-    requires to { to < 1024 }
+    requires to { to < most_nodes }
     requires marks { (reads : ℕ) × AreMarks reads marks.now }
     ensures { (reads : ℕ) → AreMarks reads marks.now
         → IfOk result (λ found. IfSome found (λ walk. All (IsStep reads) walk.items)) }
 {
     let mut walk = Vec::new(alloc);
     let mut node = to;
-    for _ in 0..1024 {
+    for _ in 0..MOST_NODES {
         if node == from {
             return Ok(Some(walk));
         }
         let Some(step) = marks[node as usize].last else {
             return Ok(None);
         };
-        let Ok(()) = walk.push(step) else {
-            return Err(NoMemory);
-        };
+        walk.push(step)?;
         node = step.arc.from;
     }
     Ok(None)
@@ -183,7 +198,7 @@ pub(crate) fn longest_steps(
     need: &[u32],
 ) -> Result<Option<Vec<Step>>, NoMemory>
     requires steps { AreSteps (length hold.now) steps.now }
-    requires tensors { tensors ≤ 512 }
+    requires tensors { tensors ≤ most_tensors }
     requires tensor { tensor < tensors }
     requires needs { length need.now ≡ length hold.now }
     ensures { IfOk result (λ found. IfSome found (λ walk. All (IsStep (length hold.now)) walk.items)) }
@@ -192,7 +207,7 @@ pub(crate) fn longest_steps(
         length: None,
         last: None,
         risen: false,
-    }; 1024];
+    }; MOST_NODES as usize];
     search(steps, tensors, tensor, hold, need, &mut marks);
     walk_back(alloc, &marks, tensor, tensors + tensor)
 }

@@ -18,7 +18,8 @@ use std::alloc::Global;
 /// error is that memory ran out.
 pub fn solve(alloc: Global, net: &Net) -> Result<(Vec<u64>, Flow), NoMemory>
     ensures plan { IfOk result (λ found. IsLeastPlan net.now.weights net.now.reads found.0.items) }
-    ensures one { IfOk result (λ found. (plan : List ℕ) → IsLeastPlan net.now.weights net.now.reads plan → plan ≡ found.0.items) }
+    ensures one { IfOk result (λ found. (plan : List ℕ) → IsLeastPlan net.now.weights net.now.reads plan
+        → plan ≡ found.0.items) }
     ensures fits { IfOk result (λ found. Fits net.now.weights net.now.reads found.0.items found.1.hold found.1.need) }
     ensures holds { IfOk result (λ found. length found.1.hold ≡ length net.now.reads) }
     ensures needs { IfOk result (λ found. length found.1.need ≡ length net.now.reads) }
@@ -45,13 +46,12 @@ fn delays_of(alloc: Global, tensors: u32, lengths: &[i64]) -> Result<Vec<u64>, N
     requires count { tensors < length lengths.now + 1 }
     requires from { (v : ℕ) → v < tensors → pos 0 ≤ℤ at lengths.now v }
     ensures size { IfOk result (λ delays. length delays.items ≡ tensors) }
-    ensures value { IfOk result (λ delays. (t : ℕ) → t < tensors → at lengths.now t ≡ pos (slice_index delays.items t)) }
+    ensures value { IfOk result (λ delays. (t : ℕ) → t < tensors
+        → at lengths.now t ≡ pos (slice_index delays.items t)) }
 {
     let mut delays = Vec::new(alloc);
     for t in 0..tensors {
-        let Ok(()) = delays.push(lengths[t as usize] as u64) else {
-            return Err(NoMemory);
-        };
+        delays.push(lengths[t as usize] as u64)?;
     }
     Ok(delays)
 }

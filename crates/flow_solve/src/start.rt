@@ -2,7 +2,7 @@ ghost use Rattle.std.specs.Prelude.{◌≡◌, length, if◌then◌else◌, IfOk
 ghost use Rattle.delay_net.specs.Certificate.{IsBalanced};
 
 use crate::proposal::{Certificate, proposal};
-use delay_net::{Net, NoMemory, is_balanced};
+use delay_net::{MOST_TENSORS, Net, NoMemory, is_balanced};
 use std::alloc::Global;
 
 // The width of a tensor for its first read, and 0 for the others.
@@ -19,15 +19,13 @@ fn first_amounts(alloc: Global, net: &Net) -> Result<Vec<u32>, NoMemory>
     ensures balanced { IfOk result (λ amounts. IsBalanced net.now.weights net.now.reads amounts.items amounts.items) }
 {
     let weights = net.weights();
-    let mut met = [false; 512];
+    let mut met = [false; MOST_TENSORS];
     let mut amounts = Vec::new(alloc);
     for read in net.reads() {
         let of = read.of as usize;
         let amount = first_amount(met[of], weights[of]);
         met[of] = true;
-        let Ok(()) = amounts.push(amount) else {
-            return Err(NoMemory);
-        };
+        amounts.push(amount)?;
     }
     Ok(amounts)
 }
@@ -36,15 +34,15 @@ fn first_amounts(alloc: Global, net: &Net) -> Result<Vec<u32>, NoMemory>
 pub(crate) fn first_certificate(alloc: Global, net: &Net) -> Result<Certificate, NoMemory>
     ensures holds { IfOk result (λ first. length first.hold.items ≡ length net.now.reads) }
     ensures needs { IfOk result (λ first. length first.need.items ≡ length net.now.reads) }
-    ensures balanced { IfOk result (λ first. IsBalanced net.now.weights net.now.reads first.hold.items first.need.items) }
+    ensures balanced { IfOk result (λ first.
+        IsBalanced net.now.weights net.now.reads first.hold.items first.need.items) }
 {
     let proposed = proposal(alloc, net)?;
     if is_balanced(net, &proposed.hold, &proposed.need) {
         return Ok(proposed);
     }
+    drop(proposed);
     let hold = first_amounts(alloc, net)?;
-    let Ok(need) = Vec::from_slice(alloc, &hold) else {
-        return Err(NoMemory);
-    };
+    let need = Vec::from_slice(alloc, &hold)?;
     Ok(Certificate { hold, need })
 }

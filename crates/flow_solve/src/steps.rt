@@ -1,9 +1,12 @@
 ghost use Rattle.std.specs.Prelude.{◌≡◌, ℕ, ◌+◌, ◌<◌, ◌≤◌, length, IfOk, OnOk};
 ghost use Rattle.std.specs.List.{All};
+ghost use Rattle.delay_net.specs.Limits.{most_tensors};
+ghost use Rattle.flow_solve.specs.Limits.{most_nodes, most_arcs};
 ghost use Rattle.delay_net.specs.Shape.{HasSmallOffset};
-ghost use Rattle.flow_solve.specs.Steps.{IsStep, AreSteps};
+ghost use Rattle.flow_solve.specs.machine.Steps.{IsStep, AreSteps};
 
 use crate::Arc;
+use crate::limits::MOST_NODES;
 use crate::residual::{storage_arc, storage_back, window_arc, window_back};
 use delay_net::{Net, NoMemory, Read};
 use std::alloc::Global;
@@ -33,14 +36,14 @@ pub(crate) struct Step {
 #[derive(Drop)]
 pub(crate) struct Steps {
     steps: Vec<Step>,
-    // For each of 1,024 nodes, where the steps that leave it begin.
+    // For each of the most nodes, where the steps that leave it begin.
     begins: Vec<u32>,
 }
 
 impl Steps {
     // The steps that leave a node, and after them those that leave later ones.
     pub(crate) fn leaving(&self, node: u32) -> &[Step]
-        requires node { node < 1024 }
+        requires node { node < most_nodes }
         requires steps { (reads : ℕ) × AreSteps reads self.now }
         ensures { (reads : ℕ) → AreSteps reads self.now → All (IsStep reads) result.now }
     {
@@ -51,7 +54,7 @@ impl Steps {
 
 // The four steps of a read with a number.
 fn steps_of(tensors: u32, number: u32, read: Read) -> [Step; 4]
-    requires tensors { tensors ≤ 512 }
+    requires tensors { tensors ≤ most_tensors }
     requires order { (read.of < tensors) × (read.reader < tensors) }
     requires small { HasSmallOffset read }
     ensures steps { (reads : ℕ) → number < reads → All (IsStep reads) result }
@@ -88,9 +91,7 @@ fn add_steps(steps: &mut Vec<Step>, four: &[Step]) -> Result<(), NoMemory>
     ensures count { OnOk result (length steps.new.items ≡ length steps.old.items + length four.now) }
 {
     for step in four {
-        let Ok(()) = steps.push(*step) else {
-            return Err(NoMemory);
-        };
+        steps.push(*step)?;
     }
     Ok(())
 }
@@ -98,7 +99,7 @@ fn add_steps(steps: &mut Vec<Step>, four: &[Step]) -> Result<(), NoMemory>
 // All steps of a net.
 fn unordered(alloc: Global, net: &Net) -> Result<Vec<Step>, NoMemory>
     ensures steps { IfOk result (λ steps. All (IsStep (length net.now.reads)) steps.items) }
-    ensures few { IfOk result (λ steps. length steps.items ≤ 65536) }
+    ensures few { IfOk result (λ steps. length steps.items ≤ most_arcs) }
 {
     let tensors = net.weights().len() as u32;
     let mut steps = Vec::new(alloc);
@@ -113,15 +114,11 @@ pub(crate) fn ordered(alloc: Global, net: &Net) -> Result<Steps, NoMemory>
     ensures { IfOk result (AreSteps (length net.now.reads)) }
 {
     let mut steps = unordered(alloc, net)?;
-    let Ok(()) = steps.sort_by_key(|step| step.arc.from) else {
-        return Err(NoMemory);
-    };
+    steps.sort_by_key(|step| step.arc.from)?;
     let mut begins = Vec::new(alloc);
-    for node in 0..1024 {
+    for node in 0..MOST_NODES {
         let begin = steps.partition_point(|step| step.arc.from < node);
-        let Ok(()) = begins.push(begin as u32) else {
-            return Err(NoMemory);
-        };
+        begins.push(begin as u32)?;
     }
     Ok(Steps { steps, begins })
 }

@@ -1,6 +1,6 @@
 ghost use Rattle.std.specs.Prelude.{◌≡◌, ◌+◌, ◌<◌, ◌≤◌, length, reverse, IfOk};
 ghost use Rattle.flow_solve.specs.Walk.{IsWalk, walk_length};
-ghost use Rattle.flow_solve.specs.Rounds.{at, IsGraph, After};
+ghost use Rattle.flow_solve.specs.machine.Rounds.{at, IsGraph, After};
 
 use crate::Arc;
 use crate::round::LastArcs;
@@ -44,9 +44,7 @@ pub(crate) fn trace(
         let Some(k) = arcs.arc_to(from) else {
             continue;
         };
-        let Ok(()) = walk.push(k) else {
-            return Err(NoMemory);
-        };
+        walk.push(k)?;
         from = graph[k as usize].from;
     }
     walk.reverse();

@@ -1,9 +1,10 @@
 ghost use Rattle.std.specs.Prelude.{◌≡◌, ◌≢◌, ℕ, ◌+◌, ◌/◌, ◌%◌, ◌^◌, ◌<◌, ◌≤◌, ◌<ℤ◌, ◌==◌, length, slice_index};
+ghost use Rattle.flow_solve.specs.Limits.{most_nodes};
 ghost use Rattle.delay_net.specs.Shape.{IsNet};
 ghost use Rattle.delay_net.specs.Certificate.{IsBalanced, value_of};
 ghost use Rattle.flow_solve.specs.Walk.{IsPositiveCycle};
-ghost use Rattle.flow_solve.specs.Residual.{residual};
-ghost use Rattle.flow_solve.specs.Conserve.{need_after, hold_after, NoRepeat};
+ghost use Rattle.flow_solve.specs.machine.Residual.{residual};
+ghost use Rattle.flow_solve.specs.machine.Conserve.{need_after, hold_after, NoRepeat};
 
 use crate::Arc;
 use delay_net::Net;
@@ -44,7 +45,7 @@ pub(crate) fn send_around(net: &Net, arcs: &[Arc], walk: &[u32], hold: &mut [u32
     requires balanced { IsBalanced net.now.weights net.now.reads hold.old need.old }
     requires cycle { IsPositiveCycle arcs.now walk.now }
     requires once { NoRepeat walk.now }
-    requires short { length walk.now ≤ 1024 }
+    requires short { length walk.now ≤ most_nodes }
     ensures holds { length hold.new ≡ length net.now.reads }
     ensures needs { length need.new ≡ length net.now.reads }
     ensures balanced { IsBalanced net.now.weights net.now.reads hold.new need.new }

@@ -32,9 +32,7 @@ pub fn longest(alloc: Global, nodes: u32, arcs: &[Arc]) -> Result<Longest, NoMem
         };
         raised = Some(node);
         lengths = longer;
-        let Ok(()) = last.push(taken) else {
-            return Err(NoMemory);
-        };
+        last.push(taken)?;
     }
     let Some(to) = raised else {
         return Ok(Longest::Lengths(lengths));
@@ -49,9 +47,7 @@ fn zeros(alloc: Global, nodes: u32) -> Result<Vec<i64>, NoMemory>
 {
     let mut lengths = Vec::new(alloc);
     for _ in 0..nodes {
-        let Ok(()) = lengths.push(0) else {
-            return Err(NoMemory);
-        };
+        lengths.push(0)?;
     }
     Ok(lengths)
 }

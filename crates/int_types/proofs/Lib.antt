@@ -5,3 +5,4 @@ pub mod Operated
 pub mod Bitwise
 pub mod Truncated
 pub mod Ranges
+pub mod CallerLemmas

@@ -20,7 +20,9 @@ WrapKeepsRange = (t : IntType) (v : ℤ) → IsType t → InRange t v → wrappe
 
 -- each bit of the value is f of the same bits of the operands
 abbrev pub IsBitByBit : BinOp → (ℕ → ℕ → ℕ) → Type 0
-IsBitByBit op f = (t : IntType) (x y : ℤ) (k : ℕ) → IsType t → k < t.bits → bit t (operated op t x y) k ≡ f (bit t x k) (bit t y k)
+IsBitByBit op f =
+    (t : IntType) (x y : ℤ) (k : ℕ) → IsType t → k < t.bits →
+    bit t (operated op t x y) k ≡ f (bit t x k) (bit t y k)
 
 -- q is x by y, truncated toward zero: what is left is less than y, and y times q goes not past x
 pub record IsTruncated (x y q : ℤ) : Type 0 where
@@ -37,8 +39,12 @@ UnaryIsInRange = (op : UnOp) (t : IntType) (v : ℤ) → IsType t → InRange (u
 
 -- the value of an operator of two operands is in the range of its type
 abbrev pub BinaryIsInRange : Type 0
-BinaryIsInRange = (op : BinOp) (a : IntType) (x : ℤ) (b : IntType) (y : ℤ) → IsType a → IsType b → InRange (binary_type op a b) (binary_value op a x b y)
+BinaryIsInRange =
+    (op : BinOp) (a : IntType) (x : ℤ) (b : IntType) (y : ℤ) → IsType a → IsType b →
+    InRange (binary_type op a b) (binary_value op a x b y)
 
 -- the value of a choice is in the range of its type
 abbrev pub SelectIsInRange : Type 0
-SelectIsInRange = (c : ℤ) (a : IntType) (x : ℤ) (b : IntType) (y : ℤ) → IsType a → IsType b → InRange (common_of a b) (select_value c a x b y)
+SelectIsInRange =
+    (c : ℤ) (a : IntType) (x : ℤ) (b : IntType) (y : ℤ) → IsType a → IsType b →
+    InRange (common_of a b) (select_value c a x b y)

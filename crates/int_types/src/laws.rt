@@ -2,8 +2,8 @@ ghost use Rattle.std.specs.Prelude.{◌+◌, ◌%◌, min, max, ℕ};
 ghost use Rattle.soda_words.specs.declared.operators.BinOp.TheVariants.{BitOr, BitXor, BitAnd};
 ghost use Rattle.int_types.specs.Laws.{WrapIsThere, WrapIsOne, WrapKeepsRange, IsBitByBit, QuotientIsTruncated, UnaryIsInRange, BinaryIsInRange, SelectIsInRange};
 
-/// There is exactly one number of a type's range that differs from a given number by a multiple of the type's size, and a
-/// number in range is its own.
+/// There is exactly one number of a type's range that differs from a given number by a multiple of the type's size,
+/// and a number in range is its own.
 pub fn wrap_is_unique()
     ensures there { WrapIsThere }
     ensures one { WrapIsOne }

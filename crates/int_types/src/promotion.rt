@@ -3,8 +3,8 @@ ghost use Rattle.int_types.specs.Operators.{promoted, wider, common_of, Promotes
 
 use soda_words::{Ty, int32, int64, uint64};
 
-/// The type in which an operator computes on operands of this type: a width below 32 bits gives int32, and any other type
-/// stays.
+/// The type in which an operator computes on operands of this type: a width below 32 bits gives int32, and any other
+/// type stays.
 pub fn promote(ty: Ty) -> Ty
     ensures { result ≡ promoted ty }
 {
@@ -26,8 +26,8 @@ fn wider(a: Ty, b: Ty) -> Ty
     }
 }
 
-/// The common type of two operands: the wider of the two promoted types, and at equal widths the unsigned one, if either is
-/// unsigned. The order of the two doesn't matter.
+/// The common type of two operands: the wider of the two promoted types, and at equal widths the unsigned one, if
+/// either is unsigned. The order of the two doesn't matter.
 pub fn common(a: Ty, b: Ty) -> Ty
     ensures value { result ≡ common_of a b }
     ensures symmetric { result ≡ common_of b a }

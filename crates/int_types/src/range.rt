@@ -34,7 +34,8 @@ pub(crate) fn size(ty: Ty) -> i128
     1i128 << ty.bits()
 }
 
-/// Whether `v` is a number of the type: from -2^(bits - 1) to 2^(bits - 1) - 1 if it is signed, else from 0 to 2^bits - 1.
+/// Whether `v` is a number of the type: from -2^(bits - 1) to 2^(bits - 1) - 1 if it is signed, else from 0 to 2^bits
+/// - 1.
 pub fn in_range(ty: Ty, v: i128) -> bool
     ensures { IsTrue result ↔ InRange ty v }
 {
@@ -50,7 +51,8 @@ fn wrap_by_remainder(ty: Ty, v: i128) -> i128
     if rest < past(ty) { rest } else { rest - size }
 }
 
-/// The one number of the type's range that differs from `v` by a multiple of 2^bits. It is `v` itself where `v` is in range.
+/// The one number of the type's range that differs from `v` by a multiple of 2^bits. It is `v` itself where `v` is in
+/// range.
 #[tactic(auto, using(crate::proofs::Wrapped::wrapped_is))]
 pub fn wrap(ty: Ty, v: i128) -> i128
     ensures relation { IsWrapOf ty v result }

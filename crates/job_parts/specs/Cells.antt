@@ -31,7 +31,8 @@ pub record AreCells (n : ℕ) (bytes : List ℕ) (cells : List ℤ) : Type 0 whe
 
 -- a cell at the front with its line feed, and what follows it
 unfoldable pub cell_line_at : List ℕ → Option (ℤ × List ℕ)
-cell_line_at bs = number_at bs >>= (λ n. if nat_le n.0 255 then (behind (10 ∷ []) n.1 >>= (λ rest. Some (pos n.0, rest))) else None)
+cell_line_at bs = number_at bs >>= (λ n. if nat_le n.0 255 then
+    (behind (10 ∷ []) n.1 >>= (λ rest. Some (pos n.0, rest))) else None)
 
 -- n cells at the front, and what follows them
 unfoldable pub cell_lines_at : ℕ → List ℕ → Option (List ℤ × List ℕ)

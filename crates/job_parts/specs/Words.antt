@@ -55,4 +55,5 @@ abbrev pub AreRead : List (String Global) → Words → Type 0
 AreRead words Untaken = ¬ TakesWords words
 AreRead words Unbuilt = TakesWords words × (word words 1 ≢ codes "check") × (word words 1 ≢ codes "plain")
 AreRead words (Check program) = TakesWords words × (word words 1 ≡ codes "check") × (word words 2 ≡ program.now)
-AreRead words (Plain w) = TakesWords words × (word words 1 ≡ codes "plain") × IsPlain words w.program.now w.rows w.input.now w.output.now
+AreRead words (Plain w) = TakesWords words × (word words 1 ≡ codes "plain")
+    × IsPlain words w.program.now w.rows w.input.now w.output.now

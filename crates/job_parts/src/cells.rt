@@ -7,7 +7,8 @@ use soda_words::behind;
 use sqlite_items::Items;
 use std::alloc::Global;
 
-/// The text of an array: its cells in decimal, `run` of them a line, parted by one blank, each line ended by a line feed.
+/// The text of an array: its cells in decimal, `run` of them a line, parted by one blank, each line ended by a line
+/// feed.
 pub fn array_text(alloc: Global, cells: &[i128], run: u64) -> Result<Vec<u8>, NoMemory>
     requires run { 0 < run }
     requires few { length cells.now < 2 ^ 32 }

@@ -61,7 +61,8 @@ fn number_word(word: &str) -> Option<u64>
 
 // The word behind the mode `check`, if it is the only one.
 fn read_check(words: &[String]) -> Option<&str>
-    ensures { MatchOption result (AreCheckWords words.now → ⊥) (λ program. AreCheckWords words.now × (word words.now 2 ≡ program.now)) }
+    ensures { MatchOption result (AreCheckWords words.now → ⊥)
+        (λ program. AreCheckWords words.now × (word words.now 2 ≡ program.now)) }
 {
     if words.len() != 3 {
         return None;
@@ -71,7 +72,8 @@ fn read_check(words: &[String]) -> Option<&str>
 
 // The words of the mode `plain`, if it takes them.
 fn read_plain(words: &[String]) -> Option<PlainWords<'_>>
-    ensures { MatchOption result (ArePlainWords words.now → ⊥) (λ w. ArePlainWords words.now × IsPlain words.now w.program.now w.rows w.input.now w.output.now) }
+    ensures { MatchOption result (ArePlainWords words.now → ⊥)
+        (λ w. ArePlainWords words.now × IsPlain words.now w.program.now w.rows w.input.now w.output.now) }
 {
     if words.len() != 6 {
         return None;

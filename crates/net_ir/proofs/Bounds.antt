@@ -17,14 +17,20 @@ use Rattle.net_ir.proofs.Steps.{taken_between, sent_between, turn_at-zeros, IsLa
 use Rattle.net_ir.proofs.CycleSteps.{all_events, visit_cases, Amid-met}
 
 -- the sender has sent enough for a module of least progress to take
-taking : (level done sent age_to age_from lead capacity to from : ℕ) → level - age_to ≤ done → done < level + 1 - age_to → lead ≤ done → from ≢ to → (from < to → level + 1 - age_from ≤ sent) → (to < from → level - age_from ≤ sent) → (from < to → (age_from ≤ age_to + lead) × (age_to + lead < age_from + capacity)) → (to < from → (age_from < age_to + lead) × (age_to + lead ≤ age_from + capacity)) → done - lead < sent
+taking : (level done sent age_to age_from lead capacity to from : ℕ) → level - age_to ≤ done → done < level + 1 - age_to → lead ≤ done → from ≢ to
+    → (from < to → level + 1 - age_from ≤ sent) → (to < from → level - age_from ≤ sent)
+    → (from < to → (age_from ≤ age_to + lead) × (age_to + lead < age_from + capacity))
+    → (to < from → (age_from < age_to + lead) × (age_to + lead ≤ age_from + capacity)) → done - lead < sent
 taking level done sent age_to age_from lead capacity to from low high led apart earlier later onward back =
     ⊎_elim (λ h. omega (arith, earlier h, (onward h).0))
     (λ h. let k : to < from = omega arith in omega (arith, later k, (back k).0))
     (cases_lt from to)
 
 -- the receiver has taken enough for a module of least progress to send
-sending : (level done taken age_from age_to lead capacity from to : ℕ) → level - age_from ≤ done → done < level + 1 - age_from → from ≢ to → (to < from → level + 1 - age_to ≤ taken) → (from < to → level - age_to ≤ taken) → (from < to → (age_from ≤ age_to + lead) × (age_to + lead < age_from + capacity)) → (to < from → (age_from < age_to + lead) × (age_to + lead ≤ age_from + capacity)) → done < (taken - lead) + capacity
+sending : (level done taken age_from age_to lead capacity from to : ℕ) → level - age_from ≤ done → done < level + 1 - age_from → from ≢ to
+    → (to < from → level + 1 - age_to ≤ taken) → (from < to → level - age_to ≤ taken)
+    → (from < to → (age_from ≤ age_to + lead) × (age_to + lead < age_from + capacity))
+    → (to < from → (age_from < age_to + lead) × (age_to + lead ≤ age_from + capacity)) → done < (taken - lead) + capacity
 sending level done taken age_from age_to lead capacity from to low high apart earlier later onward back =
     ⊎_elim (λ h. omega (arith, earlier h, (back h).1))
     (λ h. let k : from < to = omega arith in omega (arith, later k, (onward k).1))
@@ -32,20 +38,28 @@ sending level done taken age_from age_to lead capacity from to low high apart ea
 
 module _ (net : Net) (firings : ℕ) (network : IsNetwork net) where
   -- a visit leaves each module's completed firings as they were or raises them by one
-  visit_raises : (stalled : List Bool) (state : List Turn) (m n : ℕ) → m < length state → ((turn_at state n).fired ≤ (turn_at (visit net firings stalled state m) n).fired) × ((turn_at (visit net firings stalled state m) n).fired ≤ (turn_at state n).fired + cond (n == m) 1 0)
+  visit_raises : (stalled : List Bool) (state : List Turn) (m n : ℕ) → m < length state
+      → ((turn_at state n).fired ≤ (turn_at (visit net firings stalled state m) n).fired)
+      × ((turn_at (visit net firings stalled state m) n).fired ≤ (turn_at state n).fired + cond (n == m) 1 0)
   visit_raises stalled state m n h =
-      visit_cases net firings network (λ s. ((turn_at state n).fired ≤ (turn_at s n).fired) × ((turn_at s n).fired ≤ (turn_at state n).fired + cond (n == m) 1 0)) stalled state m
+      visit_cases net firings network (λ s. ((turn_at state n).fired ≤ (turn_at s n).fired)
+      × ((turn_at s n).fired ≤ (turn_at state n).fired + cond (n == m) 1 0)) stalled state m
       (λ b. ⊎_elim
-      (λ e. let now : (turn_at (set state m (fired_wholly (turn_at state m))) n).fired ≡ (turn_at state n).fired + 1 = subst (λ x. (turn_at (set state m (fired_wholly (turn_at state m))) x).fired ≡ (turn_at state x).fired + 1) (sym e) (ap (λ t. t.fired) (get_or-set_same state m (fired_wholly (turn_at state m)) unmoved h)) in
+      (λ e. let now : (turn_at (set state m (fired_wholly (turn_at state m))) n).fired
+      ≡ (turn_at state n).fired + 1 = subst (λ x. (turn_at (set state m (fired_wholly (turn_at state m))) x).fired ≡ (turn_at state x).fired + 1) (sym e)
+      (ap (λ t. t.fired) (get_or-set_same state m (fired_wholly (turn_at state m)) unmoved h)) in
       let one : cond {A = ℕ} (n == m) 1 0 ≡ 1 = ap {B = ℕ} (λ b. cond b 1 0) (eq-eqb n m e) in
       (omega arith, omega arith))
-      (λ ne. let now : (turn_at (set state m (fired_wholly (turn_at state m))) n).fired ≡ (turn_at state n).fired = ap (λ t. t.fired) (get_or-set_other state m n (fired_wholly (turn_at state m)) unmoved ne) in
+      (λ ne. let now : (turn_at (set state m (fired_wholly (turn_at state m))) n).fired
+      ≡ (turn_at state n).fired = ap (λ t. t.fired) (get_or-set_other state m n (fired_wholly (turn_at state m)) unmoved ne) in
       (omega arith, omega arith))
       (cases_eq n m))
       (λ b. (omega arith, omega arith))
 
   -- within a cycle the modules that weren't visited yet are as before, and the others completed one firing at most
-  met_raises : (stalled : List Bool) (state : List Turn) → IsLawful net firings state → IsBetween state → (m n : ℕ) → m ≤ length net.modules → ((turn_at state n).fired ≤ (turn_at (met net firings stalled state m) n).fired) × ((turn_at (met net firings stalled state m) n).fired ≤ (turn_at state n).fired + cond (nat_lt n m) 1 0)
+  met_raises : (stalled : List Bool) (state : List Turn) → IsLawful net firings state → IsBetween state → (m n : ℕ) → m ≤ length net.modules
+      → ((turn_at state n).fired ≤ (turn_at (met net firings stalled state m) n).fired)
+      × ((turn_at (met net firings stalled state m) n).fired ≤ (turn_at state n).fired + cond (nat_lt n m) 1 0)
   unfolding met
   met_raises stalled state lawful between zero n h = (omega arith, omega arith)
   met_raises stalled state lawful between (suc m) n h =
@@ -61,13 +75,17 @@ module _ (net : Net) (firings : ℕ) (network : IsNetwork net) where
   abbrev Level : ℕ → List Turn → Type 0
   Level level state = (m : ℕ) → m < length net.modules → level - age_at net m ≤ (turn_at state m).fired
 
-  Level-cycle : (stalled : List Bool) (state : List Turn) (level : ℕ) → IsLawful net firings state → IsBetween state → Level level state → Level level (cycle net firings stalled state)
+  Level-cycle : (stalled : List Bool) (state : List Turn) (level : ℕ) → IsLawful net firings state → IsBetween state → Level level state
+      → Level level (cycle net firings stalled state)
   Level-cycle stalled state level lawful between old m h =
       omega (arith, old m h, (met_raises stalled state lawful between (length net.modules) m (omega arith)).0)
 
   module _ (orderly : IsOrderly net) where
     -- a module of least progress fires
-    least_fires : (stalled : List Bool) (now : List Turn) (level m : ℕ) → IsLawful net firings now → IsBetween now → m < length net.modules → get_or stalled m false ≡ false → level < firings → level - age_at net m ≤ (turn_at now m).fired → (turn_at now m).fired < level + 1 - age_at net m → ((n : ℕ) → n < length net.modules → n < m → level + 1 - age_at net n ≤ (turn_at now n).fired) → ((n : ℕ) → n < length net.modules → m < n → level - age_at net n ≤ (turn_at now n).fired) → fires net firings stalled now m ≡ true
+    least_fires : (stalled : List Bool) (now : List Turn) (level m : ℕ) → IsLawful net firings now → IsBetween now → m < length net.modules
+        → get_or stalled m false ≡ false → level < firings → level - age_at net m ≤ (turn_at now m).fired → (turn_at now m).fired < level + 1 - age_at net m
+        → ((n : ℕ) → n < length net.modules → n < m → level + 1 - age_at net n ≤ (turn_at now n).fired)
+        → ((n : ℕ) → n < length net.modules → m < n → level - age_at net n ≤ (turn_at now n).fired) → fires net firings stalled now m ≡ true
     unfolding fires events is_possible
     least_fires stalled now level m lawful between h free below low high earlier later =
         let k : ℕ = (turn_at now m).fired in
@@ -85,8 +103,10 @@ module _ (net : Net) (firings : ℕ) (network : IsNetwork net) where
         let apart : from ≢ m = (λ e. network.ends x is.0 (e ∙ sym to_is)) in
         let enough = taking level k (turn_at now from).fired (age_at net m) (age_at net from) lead (queue_at net.queues x).capacity m from low high is.2 apart
         (λ j. earlier from (network.from x is.0) j) (λ j. later from (network.from x is.0) j)
-        (subst (λ t. from < t → (age_at net from ≤ age_at net t + lead) × (age_at net t + lead < age_at net from + (queue_at net.queues x).capacity)) to_is fit.onward)
-        (subst (λ t. t < from → (age_at net from < age_at net t + lead) × (age_at net t + lead ≤ age_at net from + (queue_at net.queues x).capacity)) to_is fit.back) in
+        (subst (λ t. from < t → (age_at net from ≤ age_at net t + lead)
+        × (age_at net t + lead < age_at net from + (queue_at net.queues x).capacity)) to_is fit.onward)
+        (subst (λ t. t < from → (age_at net from < age_at net t + lead)
+        × (age_at net t + lead ≤ age_at net from + (queue_at net.queues x).capacity)) to_is fit.back) in
         lt-ltb (taken net now x) (sent net now x) (omega arith)))
         (all_from_has (λ x. is_possible net now (Send x)) (exits net m) (λ x found.
         let is = send_is net m x found in
@@ -99,13 +119,17 @@ module _ (net : Net) (firings : ℕ) (network : IsNetwork net) where
         let apart : m ≢ to = (λ e. network.ends x is.0 (from_is ∙ e)) in
         let enough = sending level k (turn_at now to).fired (age_at net m) (age_at net to) lead (queue_at net.queues x).capacity m to low high apart
         (λ j. earlier to (network.to x is.0) j) (λ j. later to (network.to x is.0) j)
-        (subst (λ f. f < to → (age_at net f ≤ age_at net to + lead) × (age_at net to + lead < age_at net f + (queue_at net.queues x).capacity)) from_is fit.onward)
-        (subst (λ f. to < f → (age_at net f < age_at net to + lead) × (age_at net to + lead ≤ age_at net f + (queue_at net.queues x).capacity)) from_is fit.back) in
+        (subst (λ f. f < to → (age_at net f ≤ age_at net to + lead)
+        × (age_at net to + lead < age_at net f + (queue_at net.queues x).capacity)) from_is fit.onward)
+        (subst (λ f. to < f → (age_at net f < age_at net to + lead)
+        × (age_at net to + lead ≤ age_at net f + (queue_at net.queues x).capacity)) from_is fit.back) in
         lt-ltb (sent net now x) (taken net now x + (queue_at net.queues x).capacity) (omega arith)))
         refl))
 
     -- a cycle without stalls raises the level, module by module
-    met_reaches : (stalled : List Bool) (state : List Turn) (level : ℕ) → IsLawful net firings state → IsBetween state → ((m : ℕ) → get_or stalled m false ≡ false) → level < firings → Level level state → (m : ℕ) → m ≤ length net.modules → (n : ℕ) → n < m → level + 1 - age_at net n ≤ (turn_at (met net firings stalled state m) n).fired
+    met_reaches : (stalled : List Bool) (state : List Turn) (level : ℕ) → IsLawful net firings state → IsBetween state
+        → ((m : ℕ) → get_or stalled m false ≡ false) → level < firings → Level level state → (m : ℕ) → m ≤ length net.modules → (n : ℕ) → n < m
+        → level + 1 - age_at net n ≤ (turn_at (met net firings stalled state m) n).fired
     unfolding met
     met_reaches stalled state level lawful between free below old zero h n k = absurd (omega arith)
     met_reaches stalled state level lawful between free below old (suc m) h n k =
@@ -121,9 +145,11 @@ module _ (net : Net) (firings : ℕ) (network : IsNetwork net) where
         (λ j. let same : n ≡ m = omega arith in
         subst (λ x. level + 1 - age_at net x ≤ (turn_at (visit net firings stalled now m) x).fired) (sym same)
         (⊎_elim
-        (λ less. let yes' = least_fires stalled now level m amid.lawful amid.between (omega arith) (free m) below (not_yet m (omega arith)) less (λ x q w. so_far x w) (λ x q w. not_yet x q) in
+        (λ less. let yes' = least_fires stalled now level m amid.lawful amid.between (omega arith) (free m) below (not_yet m (omega arith)) less
+        (λ x q w. so_far x w) (λ x q w. not_yet x q) in
         visit_cases net firings network (λ s. level + 1 - age_at net m ≤ (turn_at s m).fired) stalled now m
-        (λ b. let done : (turn_at (set now m (fired_wholly (turn_at now m))) m).fired ≡ (turn_at now m).fired + 1 = ap (λ t. t.fired) (get_or-set_same now m (fired_wholly (turn_at now m)) unmoved within) in
+        (λ b. let done : (turn_at (set now m (fired_wholly (turn_at now m))) m).fired
+        ≡ (turn_at now m).fired + 1 = ap (λ t. t.fired) (get_or-set_same now m (fired_wholly (turn_at now m)) unmoved within) in
         omega (arith, not_yet m (omega arith)))
         (λ b. absurd (both_ways _ b yes')))
         (λ more. omega (arith, (visit_raises stalled now m m within).0))
@@ -135,7 +161,8 @@ module _ (net : Net) (firings : ℕ) (network : IsNetwork net) where
     none_stalled (b ∷ bs) e zero = (or_parts b (list_any (λ flag. flag) bs) e).0
     none_stalled (b ∷ bs) e (suc m) = none_stalled bs (or_parts b (list_any (λ flag. flag) bs) e).1 m
 
-    stalled_first : (stalled : List Bool) (rest : List (List Bool)) (b : Bool) → list_any (λ flag. flag) stalled ≡ b → stalled_cycles (stalled ∷ rest) ≡ cond b 1 0 + stalled_cycles rest
+    stalled_first : (stalled : List Bool) (rest : List (List Bool)) (b : Bool) → list_any (λ flag. flag) stalled ≡ b
+        → stalled_cycles (stalled ∷ rest) ≡ cond b 1 0 + stalled_cycles rest
     stalled_first stalled rest b e = sum_by-cons (λ flags. cond (list_any (λ flag. flag) flags) 1 0) stalled rest ∙ ap (λ c. cond c 1 0 + stalled_cycles rest) e
 
     stalled_before : (k : ℕ) (stalls : List (List Bool)) → stalled_cycles (take k stalls) ≤ stalled_cycles stalls
@@ -147,7 +174,8 @@ module _ (net : Net) (firings : ℕ) (network : IsNetwork net) where
         omega (arith, stalled_before k rest, one, all)
 
     -- cycles that are enough for the level that is left end the run
-    ends_from : (stalls : List (List Bool)) (state : List Turn) (level : ℕ) → IsLawful net firings state → IsBetween state → level ≤ firings → Level level state → firings + stalled_cycles stalls ≤ level + length stalls → IsFinished net firings (cycles net firings stalls state)
+    ends_from : (stalls : List (List Bool)) (state : List Turn) (level : ℕ) → IsLawful net firings state → IsBetween state → level ≤ firings → Level level state
+        → firings + stalled_cycles stalls ≤ level + length stalls → IsFinished net firings (cycles net firings stalls state)
     ends_from [] state level lawful between below old enough m h =
         omega (arith, old m h, (lawful.turns m h).completed)
     ends_from (stalled ∷ rest) state level lawful between below old enough m h =
@@ -156,17 +184,26 @@ module _ (net : Net) (firings : ℕ) (network : IsNetwork net) where
         ⊎_elim
         (λ b. ends_from rest (cycle net firings stalled state) level amid.lawful amid.between below kept (omega (arith, stalled_first stalled rest true b)) m h)
         (λ b. ⊎_elim
-        (λ less. ends_from rest (cycle net firings stalled state) (level + 1) amid.lawful amid.between (omega arith) (λ x j. met_reaches stalled state level lawful between (none_stalled stalled b) less old (length net.modules) (omega arith) x j) (omega (arith, stalled_first stalled rest false b)) m h)
-        (λ full. ends_from rest (cycle net firings stalled state) level amid.lawful amid.between below kept (omega (arith, count_by-le-length (list_any (λ flag. flag)) rest)) m h)
+        (λ less. ends_from rest (cycle net firings stalled state) (level + 1) amid.lawful amid.between (omega arith)
+        (λ x j. met_reaches stalled state level lawful between (none_stalled stalled b) less old (length net.modules) (omega arith) x j)
+        (omega (arith, stalled_first stalled rest false b)) m h)
+        (λ full. ends_from rest (cycle net firings stalled state) level amid.lawful amid.between below kept
+        (omega (arith, count_by-le-length (list_any (λ flag. flag)) rest)) m h)
         (cases_lt level firings))
         (cases_Bool (list_any (λ flag. flag) stalled))
 
   -- a run of cycles completes one firing a cycle at most
-  cycles_raise : (stalls : List (List Bool)) (state : List Turn) → IsLawful net firings state → IsBetween state → (m : ℕ) → (turn_at (cycles net firings stalls state) m).fired ≤ (turn_at state m).fired + length stalls
+  cycles_raise : (stalls : List (List Bool)) (state : List Turn) → IsLawful net firings state → IsBetween state → (m : ℕ)
+      → (turn_at (cycles net firings stalls state) m).fired ≤ (turn_at state m).fired + length stalls
   cycles_raise [] state lawful between m = omega arith
   cycles_raise (stalled ∷ rest) state lawful between m =
       let amid = Amid-met net firings network stalled state lawful between (length net.modules) (omega arith) in
-      omega (arith, cycles_raise rest (cycle net firings stalled state) amid.lawful amid.between m, (met_raises stalled state lawful between (length net.modules) m (omega arith)).1, at_most (nat_lt m (length net.modules)))
+      omega (
+        arith,
+        cycles_raise rest (cycle net firings stalled state) amid.lawful amid.between m,
+        (met_raises stalled state lawful between (length net.modules) m (omega arith)).1,
+        at_most (nat_lt m (length net.modules)),
+      )
     where
       at_most : (b : Bool) → cond b 1 0 ≤ 1
       at_most true = omega arith
@@ -179,7 +216,8 @@ module _ (net : Net) (firings : ℕ) (network : IsNetwork net) where
   fired-zeros m = ap (λ t. t.fired) (turn_at-zeros net firings net.modules m)
 
   -- a module of age 0 needs a cycle for each of its firings
-  not_earlier : (stalls : List (List Bool)) (m : ℕ) → m < length net.modules → age_at net m ≡ 0 → IsFinished net firings (cycles net firings stalls (zeros net)) → firings ≤ length stalls
+  not_earlier : (stalls : List (List Bool)) (m : ℕ) → m < length net.modules → age_at net m ≡ 0 → IsFinished net firings (cycles net firings stalls (zeros net))
+      → firings ≤ length stalls
   not_earlier stalls m h age end =
       omega (arith, end m h, cycles_raise stalls (zeros net) (IsLawful-zeros net firings) IsBetween-zeros m, fired-zeros m)
 
@@ -202,17 +240,28 @@ module _ (net : Net) (firings : ℕ) (network : IsNetwork net) where
       exact : (m : ℕ) → m < length net.modules → age_at net m ≡ 0 → stalled_cycles stalls ≡ 0 → EndsWith net firings stalls ↔ (length stalls ≡ firings)
       exact m h age free = (
         (λ e. omega (arith, within e, not_earlier stalls m h age e.0)),
-        (λ same. (ends stalls (omega arith), λ k j end. let long : length (take k stalls) ≡ k = length-take-le k stalls (omega arith) in absurd (omega (arith, not_earlier (take k stalls) m h age end)))),
+        (λ same. (
+          ends stalls (omega arith),
+          λ k j end. let long : length (take k stalls) ≡ k = length-take-le k stalls (omega arith)
+              in absurd (omega (arith, not_earlier (take k stalls) m h age end)),
+        )),
       )
 
-  pub least_progress : IsOrderly net → (stalled : List Bool) (state : List Turn) → IsLawful net firings state → IsBetween state → list_any (λ flag. flag) stalled ≡ false → LeastFires net firings stalled state
+  pub least_progress : IsOrderly net → (stalled : List Bool) (state : List Turn) → IsLawful net firings state → IsBetween state
+      → list_any (λ flag. flag) stalled ≡ false → LeastFires net firings stalled state
   least_progress orderly stalled state lawful between free m h left least =
       let level : ℕ = progress net state m in
       let reached : Level level state = λ n k. ⊎_elim
       (λ more. omega (arith, least n k more))
       (λ done. omega (arith, done))
       (cases_lt (turn_at state n).fired (firings_at net firings n)) in
-      omega (arith, met_reaches orderly stalled state level lawful between (none_stalled orderly stalled free) (omega arith) reached (length net.modules) (omega arith) m h, (met_raises stalled state lawful between (length net.modules) m (omega arith)).1, at_most (nat_lt m (length net.modules)))
+      omega (
+        arith,
+        met_reaches orderly stalled state level lawful between (none_stalled orderly stalled free) (omega arith) reached (length net.modules)
+            (omega arith) m h,
+        (met_raises stalled state lawful between (length net.modules) m (omega arith)).1,
+        at_most (nat_lt m (length net.modules)),
+      )
     where
       at_most : (b : Bool) → cond b 1 0 ≤ 1
       at_most true = omega arith

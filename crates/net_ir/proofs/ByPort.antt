@@ -20,7 +20,8 @@ Rises queues [] = Unit {0}
 Rises queues (x ∷ xs) =
     ((y : ℕ) → has y xs ≡ true → (queue_at queues x).port < (queue_at queues y).port) × Rises queues xs
 
-Rises-put : (queues : List Queue) (n : ℕ) (xs : List ℕ) → Rises queues xs → ((y : ℕ) → has y xs ≡ true → (queue_at queues y).port ≢ (queue_at queues n).port) → Rises queues (put_by_port queues n xs)
+Rises-put : (queues : List Queue) (n : ℕ) (xs : List ℕ) → Rises queues xs → ((y : ℕ) → has y xs ≡ true → (queue_at queues y).port ≢ (queue_at queues n).port)
+    → Rises queues (put_by_port queues n xs)
 Rises-put queues n [] r apart = (λ y h. absurd (false≢true h), tt)
 Rises-put queues n (x ∷ xs) r apart =
     let later : (y : ℕ) → has y xs ≡ true → has y (x ∷ xs) ≡ true = λ y h. or_right (nat_eq y x) (has y xs) h in
@@ -46,7 +47,9 @@ Rises-put queues n (x ∷ xs) r apart =
     smaller : (a b : ℕ) → a ≤ b → b ≢ a → a < b
     smaller a b le ne = omega arith
 
-Rises-entrances_among : (queues : List Queue) (m k : ℕ) → ((i j : ℕ) → i < j → j < k → (queue_at queues i).to ≡ (queue_at queues j).to → (queue_at queues i).port ≢ (queue_at queues j).port) → Rises queues (entrances_among queues m k)
+Rises-entrances_among : (queues : List Queue) (m k : ℕ) →
+    ((i j : ℕ) → i < j → j < k → (queue_at queues i).to ≡ (queue_at queues j).to → (queue_at queues i).port ≢ (queue_at queues j).port)
+    → Rises queues (entrances_among queues m k)
 unfolding entrances_among
 Rises-entrances_among queues m zero apart = tt
 Rises-entrances_among queues m (suc k) apart =

@@ -47,7 +47,8 @@ has-filter f n [] = refl
 has-filter f n (x ∷ xs) =
     ⊎_elim
     (λ keep. ap (λ b. has n (cond b (x ∷ filter f xs) (filter f xs))) keep ∙ ⊎_elim
-    (λ e. let same : n ≡ x = eqb-true n x e in let kept : f n ≡ true = ap f same ∙ keep in shape (nat_eq n x) (has n xs) (f n) (has n (filter f xs)) (has-filter f n xs) kept)
+    (λ e. let same : n ≡ x = eqb-true n x e in let kept : f n ≡ true = ap f same ∙ keep
+    in shape (nat_eq n x) (has n xs) (f n) (has n (filter f xs)) (has-filter f n xs) kept)
     (λ e. ap (λ b. b || has n (filter f xs)) e ∙ has-filter f n xs ∙ ap (λ b. (b || has n xs) && f n) (sym e))
     (cases_Bool (nat_eq n x)))
     (λ skip. ap (λ b. has n (cond b (x ∷ filter f xs) (filter f xs))) skip ∙ ⊎_elim
@@ -77,14 +78,18 @@ Distinct-filter f (x ∷ xs) u =
 pub Distinct-push : (xs : List ℕ) (n : ℕ) → Distinct xs → has n xs ≡ false → Distinct (xs ++ n ∷ [])
 Distinct-push [] n u h = (refl, tt)
 Distinct-push (x ∷ xs) n u h =
-    let p = or_parts (nat_eq n x) (has n xs) h in
-    (has-append x xs (n ∷ []) ∙ or_from (has x xs) (nat_eq x n || false) u.0 (or_from (nat_eq x n) false (ne_eqb x n (λ e. eqb-false n x p.0 (sym e))) refl), Distinct-push xs n u.1 p.1)
+    let p = or_parts (nat_eq n x) (has n xs) h in (
+      has-append x xs (n ∷ []) ∙ or_from (has x xs) (nat_eq x n || false) u.0
+          (or_from (nat_eq x n) false (ne_eqb x n (λ e. eqb-false n x p.0 (sym e))) refl),
+      Distinct-push xs n u.1 p.1,
+    )
 
 -- a test of each number of a list
 pub all_from_has : (p : ℕ → Bool) (xs : List ℕ) → ((n : ℕ) → has n xs ≡ true → p n ≡ true) → list_all p xs ≡ true
 all_from_has p [] h = refl
 all_from_has p (x ∷ xs) h =
-    and_from (p x) (list_all p xs) (h x (or_left (nat_eq x x) (has x xs) (eq-eqb x x refl))) (all_from_has p xs (λ n e. h n (or_right (nat_eq n x) (has n xs) e)))
+    and_from (p x) (list_all p xs) (h x (or_left (nat_eq x x) (has x xs) (eq-eqb x x refl)))
+    (all_from_has p xs (λ n e. h n (or_right (nat_eq n x) (has n xs) e)))
 
 pub passes_at : (p : ℕ → Bool) (xs : List ℕ) (n : ℕ) → list_all p xs ≡ true → has n xs ≡ true → p n ≡ true
 passes_at p [] n a h = absurd (false≢true h)

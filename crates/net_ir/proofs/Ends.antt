@@ -10,7 +10,8 @@ pub has-put_by_port : (queues : List Queue) (n k : ℕ) (xs : List ℕ) → has 
 has-put_by_port queues n k [] = refl
 has-put_by_port queues n k (x ∷ xs) =
     ⊎_elim
-    (λ e. ap (λ b. has n (cond b (x ∷ put_by_port queues k xs) (k ∷ x ∷ xs))) e ∙ ap (λ b. nat_eq n x || b) (has-put_by_port queues n k xs) ∙ swapped (nat_eq n x) (nat_eq n k) (has n xs))
+    (λ e. ap (λ b. has n (cond b (x ∷ put_by_port queues k xs) (k ∷ x ∷ xs))) e ∙ ap (λ b. nat_eq n x || b) (has-put_by_port queues n k xs)
+    ∙ swapped (nat_eq n x) (nat_eq n k) (has n xs))
     (λ e. ap (λ b. has n (cond b (x ∷ put_by_port queues k xs) (k ∷ x ∷ xs))) e)
     (cases_Bool (nat_lt (queue_at queues x).port (queue_at queues k).port))
   where
@@ -25,7 +26,8 @@ Distinct-put_by_port queues k (x ∷ xs) u h =
     let p = or_parts (nat_eq k x) (has k xs) h in
     let apart : nat_eq x k ≡ false = ne_eqb x k (λ e. eqb-false k x p.0 (sym e)) in
     ⊎_elim
-    (λ e. subst (λ b. Distinct (cond b (x ∷ put_by_port queues k xs) (k ∷ x ∷ xs))) (sym e) (has-put_by_port queues x k xs ∙ or_from (nat_eq x k) (has x xs) apart u.0, Distinct-put_by_port queues k xs u.1 p.1))
+    (λ e. subst (λ b. Distinct (cond b (x ∷ put_by_port queues k xs) (k ∷ x ∷ xs))) (sym e)
+    (has-put_by_port queues x k xs ∙ or_from (nat_eq x k) (has x xs) apart u.0, Distinct-put_by_port queues k xs u.1 p.1))
     (λ e. subst (λ b. Distinct (cond b (x ∷ put_by_port queues k xs) (k ∷ x ∷ xs))) (sym e) (h, u))
     (cases_Bool (nat_lt (queue_at queues x).port (queue_at queues k).port))
 
@@ -38,7 +40,8 @@ length-put_by_port queues k (x ∷ xs) =
     (cases_Bool (nat_lt (queue_at queues x).port (queue_at queues k).port))
 
 -- one queue more among those that a test picks
-step : (n k : ℕ) (t : ℕ → Bool) (rest now : Bool) → rest ≡ (nat_lt n k && t n) → (t k ≡ true → now ≡ (nat_eq n k || rest)) → (t k ≡ false → now ≡ rest) → now ≡ (nat_lt n (suc k) && t n)
+step : (n k : ℕ) (t : ℕ → Bool) (rest now : Bool) → rest ≡ (nat_lt n k && t n) → (t k ≡ true → now ≡ (nat_eq n k || rest)) → (t k ≡ false → now ≡ rest)
+    → now ≡ (nat_lt n (suc k) && t n)
 step n k t rest now old picked passed =
     ⊎_elim
     (λ e. let same : n ≡ k = eqb-true n k e in
@@ -70,7 +73,8 @@ unfolding entrances_among
 has-entrances_among queues m zero n = none_below n ((queue_at queues n).to == m)
 has-entrances_among queues m (suc k) n =
     step n k (λ q. (queue_at queues q).to == m) _ _ (has-entrances_among queues m k n)
-    (λ e. ap (λ b. has n (cond b (put_by_port queues k (entrances_among queues m k)) (entrances_among queues m k))) e ∙ has-put_by_port queues n k (entrances_among queues m k))
+    (λ e. ap (λ b. has n (cond b (put_by_port queues k (entrances_among queues m k)) (entrances_among queues m k))) e
+    ∙ has-put_by_port queues n k (entrances_among queues m k))
     (λ e. ap (λ b. has n (cond b (put_by_port queues k (entrances_among queues m k)) (entrances_among queues m k))) e)
 
 or_end : (a b : Bool) → (a || (b || false)) ≡ (b || a)
@@ -84,7 +88,8 @@ unfolding exits_among
 has-exits_among queues m zero n = none_below n ((queue_at queues n).from == m)
 has-exits_among queues m (suc k) n =
     step n k (λ q. (queue_at queues q).from == m) _ _ (has-exits_among queues m k n)
-    (λ e. ap (λ b. has n (cond b (exits_among queues m k ++ k ∷ []) (exits_among queues m k))) e ∙ has-append n (exits_among queues m k) (k ∷ []) ∙ or_end (has n (exits_among queues m k)) (nat_eq n k))
+    (λ e. ap (λ b. has n (cond b (exits_among queues m k ++ k ∷ []) (exits_among queues m k))) e ∙ has-append n (exits_among queues m k) (k ∷ [])
+    ∙ or_end (has n (exits_among queues m k)) (nat_eq n k))
     (λ e. ap (λ b. has n (cond b (exits_among queues m k ++ k ∷ []) (exits_among queues m k))) e)
 
 not_itself : (k : ℕ) (b c : Bool) → c ≡ (nat_lt k k && b) → c ≡ false
@@ -95,8 +100,10 @@ unfolding entrances_among
 Distinct-entrances_among queues m zero = tt
 Distinct-entrances_among queues m (suc k) =
     ⊎_elim
-    (λ e. subst (λ b. Distinct (cond b (put_by_port queues k (entrances_among queues m k)) (entrances_among queues m k))) (sym e) (Distinct-put_by_port queues k (entrances_among queues m k) (Distinct-entrances_among queues m k) (not_itself k _ _ (has-entrances_among queues m k k))))
-    (λ e. subst (λ b. Distinct (cond b (put_by_port queues k (entrances_among queues m k)) (entrances_among queues m k))) (sym e) (Distinct-entrances_among queues m k))
+    (λ e. subst (λ b. Distinct (cond b (put_by_port queues k (entrances_among queues m k)) (entrances_among queues m k))) (sym e)
+    (Distinct-put_by_port queues k (entrances_among queues m k) (Distinct-entrances_among queues m k) (not_itself k _ _ (has-entrances_among queues m k k))))
+    (λ e. subst (λ b. Distinct (cond b (put_by_port queues k (entrances_among queues m k)) (entrances_among queues m k))) (sym e)
+    (Distinct-entrances_among queues m k))
     (cases_Bool ((queue_at queues k).to == m))
 
 pub Distinct-exits_among : (queues : List Queue) (m k : ℕ) → Distinct (exits_among queues m k)
@@ -104,11 +111,13 @@ unfolding exits_among
 Distinct-exits_among queues m zero = tt
 Distinct-exits_among queues m (suc k) =
     ⊎_elim
-    (λ e. subst (λ b. Distinct (cond b (exits_among queues m k ++ k ∷ []) (exits_among queues m k))) (sym e) (Distinct-push (exits_among queues m k) k (Distinct-exits_among queues m k) (not_itself k _ _ (has-exits_among queues m k k))))
+    (λ e. subst (λ b. Distinct (cond b (exits_among queues m k ++ k ∷ []) (exits_among queues m k))) (sym e)
+    (Distinct-push (exits_among queues m k) k (Distinct-exits_among queues m k) (not_itself k _ _ (has-exits_among queues m k k))))
     (λ e. subst (λ b. Distinct (cond b (exits_among queues m k ++ k ∷ []) (exits_among queues m k))) (sym e) (Distinct-exits_among queues m k))
     (cases_Bool ((queue_at queues k).from == m))
 
-pub length-ends_among : (queues : List Queue) (m k : ℕ) → ((n : ℕ) → n < k → (queue_at queues n).from ≢ (queue_at queues n).to) → length (entrances_among queues m k) + length (exits_among queues m k) ≤ k
+pub length-ends_among : (queues : List Queue) (m k : ℕ) → ((n : ℕ) → n < k → (queue_at queues n).from ≢ (queue_at queues n).to)
+    → length (entrances_among queues m k) + length (exits_among queues m k) ≤ k
 unfolding entrances_among exits_among
 length-ends_among queues m zero apart = omega arith
 length-ends_among queues m (suc k) apart =
@@ -119,7 +128,8 @@ length-ends_among queues m (suc k) apart =
     (length ins) (length outs) (length (put_by_port queues k ins)) (length (outs ++ k ∷ [])) old (length-put_by_port queues k ins) (length-append outs (k ∷ []))
     (λ b. length (cond b (put_by_port queues k ins) ins)) refl refl (λ b. length (cond b (outs ++ k ∷ []) outs)) refl refl
   where
-    two_cases : (a b : Bool) → (a ≡ true → b ≡ true → ⊥) → (k i o i' o' : ℕ) → i + o ≤ k → i' ≡ suc i → o' ≡ o + 1 → (f : Bool → ℕ) → f true ≡ i' → f false ≡ i → (g : Bool → ℕ) → g true ≡ o' → g false ≡ o → f a + g b ≤ suc k
+    two_cases : (a b : Bool) → (a ≡ true → b ≡ true → ⊥) → (k i o i' o' : ℕ) → i + o ≤ k → i' ≡ suc i → o' ≡ o + 1 → (f : Bool → ℕ) → f true ≡ i' → f false ≡ i
+        → (g : Bool → ℕ) → g true ≡ o' → g false ≡ o → f a + g b ≤ suc k
     two_cases true true x k i o i' o' h e1 e2 f f1 f2 g g1 g2 = absurd (x refl refl)
     two_cases true false x k i o i' o' h e1 e2 f f1 f2 g g1 g2 = omega arith
     two_cases false true x k i o i' o' h e1 e2 f f1 f2 g g1 g2 = omega arith
@@ -127,7 +137,8 @@ length-ends_among queues m (suc k) apart =
 
 pub entrances_known : (queues : List Queue) (m k : ℕ) → All (λ n. n < k) (entrances_among queues m k)
 entrances_known queues m k =
-    λ i d h. ltb-true _ _ (and_parts _ _ (sym (has-entrances_among queues m k (get_or (entrances_among queues m k) i d)) ∙ has-get_or (entrances_among queues m k) i d h)).0
+    λ i d h. ltb-true _ _ (and_parts _ _ (sym (has-entrances_among queues m k (get_or (entrances_among queues m k) i d))
+    ∙ has-get_or (entrances_among queues m k) i d h)).0
 
 pub exits_known : (queues : List Queue) (m k : ℕ) → All (λ n. n < k) (exits_among queues m k)
 exits_known queues m k =

@@ -19,9 +19,11 @@ use Rattle.net_ir.proofs.Steps.{taken_between, sent_between, IsLawful-after, pos
 pub lawful_on : (net net' : Net) (firings : ℕ) (state : List Turn) → net ≡ net' → IsLawful net firings state → IsLawful net' firings state
 lawful_on net net' firings state e l = subst (λ n. IsLawful n firings state) e l
 
-pub start_lawful : (modules : List Module) (queues : List Queue) (from : List Module) (firings : ℕ) (state : List Turn) → modules ≡ from → state ≡ map (λ _. unmoved) from → IsLawful (record { modules = modules; queues = queues }) firings state
+pub start_lawful : (modules : List Module) (queues : List Queue) (from : List Module) (firings : ℕ) (state : List Turn) → modules ≡ from
+    → state ≡ map (λ _. unmoved) from → IsLawful (record { modules = modules; queues = queues }) firings state
 start_lawful modules queues from firings state m t =
-    subst (IsLawful (record { modules = modules; queues = queues }) firings) (sym (t ∙ ap (map (λ (_ : Module). unmoved)) (sym m))) (IsLawful-zeros (record { modules = modules; queues = queues }) firings)
+    subst (IsLawful (record { modules = modules; queues = queues }) firings) (sym (t ∙ ap (map (λ (_ : Module). unmoved)) (sym m)))
+    (IsLawful-zeros (record { modules = modules; queues = queues }) firings)
 
 at_most_one : (n : ℕ) (ns : List ℕ) → once n ns ≤ 1
 at_most_one n ns = at_most (list_any (nat_eq n) ns)
@@ -36,7 +38,8 @@ unfolding taken_by
 taken_fits net firings m n turn is =
     ⊎_elim
     (λ e. omega (arith, taken_between net n turn e, is.completed))
-    (λ ne. let more : turn.fired < firings_at net firings m = ⊎_elim (λ h. h) (λ h. absurd (ne (is.over (omega (arith, is.completed))))) (cases_lt turn.fired (firings_at net firings m)) in
+    (λ ne. let more : turn.fired < firings_at net firings m = ⊎_elim (λ h. h) (λ h. absurd (ne (is.over (omega (arith, is.completed)))))
+    (cases_lt turn.fired (firings_at net firings m)) in
     omega (arith, at_most_one n (taken_now net (queue_at net.queues n).to turn)))
     (cases_eq turn.part 0)
 
@@ -45,7 +48,8 @@ unfolding sent_by
 sent_fits net firings m n turn is =
     ⊎_elim
     (λ e. omega (arith, sent_between net n turn e, is.completed))
-    (λ ne. let more : turn.fired < firings_at net firings m = ⊎_elim (λ h. h) (λ h. absurd (ne (is.over (omega (arith, is.completed))))) (cases_lt turn.fired (firings_at net firings m)) in
+    (λ ne. let more : turn.fired < firings_at net firings m = ⊎_elim (λ h. h) (λ h. absurd (ne (is.over (omega (arith, is.completed)))))
+    (cases_lt turn.fired (firings_at net firings m)) in
     omega (arith, at_most_one n (sent_now net (queue_at net.queues n).from turn)))
     (cases_eq turn.part 0)
 
@@ -59,16 +63,23 @@ module _ (net : Net) where
 
   takes_few : (m k : ℕ) → length (takes net m k) ≤ length (entrances net m)
   unfolding takes
-  takes_few m k = omega (arith, length-filter (λ q. nat_le (queue_at net.queues q).lead k) (entrances net m), count_by-le-length (λ q. nat_le (queue_at net.queues q).lead k) (entrances net m))
+  takes_few m k = omega (
+    arith,
+    length-filter (λ q. nat_le (queue_at net.queues q).lead k) (entrances net m),
+    count_by-le-length
+        (λ q. nat_le (queue_at net.queues q).lead k) (entrances net m),
+  )
 
-  pub part_fits : (m : ℕ) (turn : Turn) → length (entrances net m) + length (exits net m) ≤ length net.queues → length net.queues < 2 ^ 32 → (next_event net m turn ≡ Close → ⊥) → turn.part + 1 < 2 ^ 32
+  pub part_fits : (m : ℕ) (turn : Turn) → length (entrances net m) + length (exits net m) ≤ length net.queues → length net.queues < 2 ^ 32
+      → (next_event net m turn ≡ Close → ⊥) → turn.part + 1 < 2 ^ 32
   part_fits m turn few small =
       by_next net (λ e. (e ≡ Close → ⊥) → turn.part + 1 < 2 ^ 32) m turn
       (λ k ne. omega (arith, takes_few m turn.fired))
       (λ j k ne. omega (arith, takes_few m turn.fired))
       (λ k ne. absurd (ne refl))
 
-  pub after_is : (state : List Turn) (m : ℕ) (turn next : Turn) (event : Event) → turn ≡ turn_at state m → event ≡ next_event net m turn → next ≡ turn_after event turn → set state m next ≡ after net state m
+  pub after_is : (state : List Turn) (m : ℕ) (turn next : Turn) (event : Event) → turn ≡ turn_at state m → event ≡ next_event net m turn
+      → next ≡ turn_after event turn → set state m next ≡ after net state m
   unfolding after
   after_is state m turn next event t e n =
       ap (set state m) (n ∙ ap (λ x. turn_after x turn) e ∙ ap (λ x. turn_after (next_event net m x) x) t)
@@ -77,10 +88,12 @@ module _ (net : Net) where
   unfolding after
   elsewhere-after state m n ne = get_or-set_other state m n _ _ ne
 
-  pub possible_send : (state : List Turn) (n t s capacity : ℕ) → t ≡ taken net state n → s ≡ sent net state n → capacity ≡ (queue_at net.queues n).capacity → t ≤ s → nat_lt (s - t) capacity ≡ is_possible net state (Send n)
+  pub possible_send : (state : List Turn) (n t s capacity : ℕ) → t ≡ taken net state n → s ≡ sent net state n → capacity ≡ (queue_at net.queues n).capacity
+      → t ≤ s → nat_lt (s - t) capacity ≡ is_possible net state (Send n)
   unfolding is_possible
   possible_send state n t s capacity a b c h =
-      less s t capacity h ∙ ap (λ x. nat_lt x (t + capacity)) b ∙ ap (λ x. nat_lt (sent net state n) (x + capacity)) a ∙ ap (λ x. nat_lt (sent net state n) (taken net state n + x)) c
+      less s t capacity h ∙ ap (λ x. nat_lt x (t + capacity)) b ∙ ap (λ x. nat_lt (sent net state n) (x + capacity)) a
+      ∙ ap (λ x. nat_lt (sent net state n) (taken net state n + x)) c
     where
       less : (s t c : ℕ) → t ≤ s → nat_lt (s - t) c ≡ nat_lt s (t + c)
       less s t c h = grind (arith, nat_tests)
@@ -94,11 +107,13 @@ module _ (net : Net) where
   possible_close state = refl
 
 module _ (net : Net) (firings : ℕ) (state : List Turn) (m : ℕ) where
-  pub can_parts : can_step net firings state m ≡ true → ((turn_at state m).fired < firings_at net firings m) × (is_possible net state (next_event net m (turn_at state m)) ≡ true)
+  pub can_parts : can_step net firings state m ≡ true → ((turn_at state m).fired < firings_at net firings m)
+      × (is_possible net state (next_event net m (turn_at state m)) ≡ true)
   unfolding can_step
   can_parts e = let p = and_parts _ _ e in (ltb-true _ _ p.0, p.1)
 
-  pub can_from : (turn : Turn) (event : Event) (left b : Bool) → turn ≡ turn_at state m → event ≡ next_event net m turn → left ≡ nat_lt turn.fired (firings_at net firings m) → b ≡ is_possible net state event → (left && b) ≡ can_step net firings state m
+  pub can_from : (turn : Turn) (event : Event) (left b : Bool) → turn ≡ turn_at state m → event ≡ next_event net m turn
+      → left ≡ nat_lt turn.fired (firings_at net firings m) → b ≡ is_possible net state event → (left && b) ≡ can_step net firings state m
   unfolding can_step
   can_from turn event left b t e l h =
       ap (λ x. x && b) l ∙ ap (λ (x : Turn). nat_lt x.fired (firings_at net firings m) && b) t
@@ -120,7 +135,8 @@ module _ (net : Net) (firings : ℕ) (state : List Turn) (m : ℕ) where
   abbrev next : Event
   next = next_event net m (turn_at state m)
 
-  waits_on : (b : Bool) → (has_firing net firings state m && not (is_possible net state next)) ≡ b → waits_for net firings state m ≡ cond b (other_end net next) None
+  waits_on : (b : Bool) → (has_firing net firings state m && not (is_possible net state next)) ≡ b
+      → waits_for net firings state m ≡ cond b (other_end net next) None
   unfolding waits_for
   waits_on b e = ap (λ c. cond c (other_end net next) None) e
 
@@ -138,14 +154,17 @@ module _ (net : Net) (firings : ℕ) (state : List Turn) (m : ℕ) where
   same_next : (turn : Turn) (event : Event) → turn ≡ turn_at state m → event ≡ next_event net m turn → event ≡ next
   same_next turn event t e = e ∙ ap (next_event net m) t
 
-  pub waits_able : (turn : Turn) (event : Event) (b : Bool) → turn ≡ turn_at state m → event ≡ next_event net m turn → b ≡ is_possible net state event → b ≡ true → None ≡ waits_for net firings state m
+  pub waits_able : (turn : Turn) (event : Event) (b : Bool) → turn ≡ turn_at state m → event ≡ next_event net m turn → b ≡ is_possible net state event
+      → b ≡ true → None ≡ waits_for net firings state m
   waits_able turn event b t e h y =
       waits_none (and_no (has_firing net firings state m) _ (sym (ap (is_possible net state) (same_next turn event t e)) ∙ sym h ∙ y))
 
-  pub waits_end : (turn : Turn) (event : Event) (b : Bool) (o : Option ℕ) → turn ≡ turn_at state m → event ≡ next_event net m turn → turn.fired < firings_at net firings m → b ≡ is_possible net state event → b ≡ false → o ≡ other_end net event → o ≡ waits_for net firings state m
+  pub waits_end : (turn : Turn) (event : Event) (b : Bool) (o : Option ℕ) → turn ≡ turn_at state m → event ≡ next_event net m turn
+      → turn.fired < firings_at net firings m → b ≡ is_possible net state event → b ≡ false → o ≡ other_end net event → o ≡ waits_for net firings state m
   waits_end turn event b o t e left h y k =
       k ∙ ap (other_end net) (same_next turn event t e)
-      ∙ sym (waits_on true (and_from _ _ (lt-ltb _ _ (subst (λ (x : Turn). x.fired < firings_at net firings m) t left)) (not_from_false _ (sym (ap (is_possible net state) (same_next turn event t e)) ∙ sym h ∙ y))))
+      ∙ sym (waits_on true (and_from _ _ (lt-ltb _ _ (subst (λ (x : Turn). x.fired < firings_at net firings m) t left))
+      (not_from_false _ (sym (ap (is_possible net state) (same_next turn event t e)) ∙ sym h ∙ y))))
 
   has_no_end : (e : Event) → IsNone (other_end net e) → is_possible net state e ≡ true
   unfolding is_possible
@@ -154,7 +173,8 @@ module _ (net : Net) (firings : ℕ) (state : List Turn) (m : ℕ) where
   has_no_end Close h = refl
 
   -- a module waits for none exactly where it has no firing left or can step
-  pub waits_none_iff : (o : Option ℕ) → o ≡ waits_for net firings state m → IsNone o ↔ ((has_firing net firings state m ≡ false) ⊎ (can_step net firings state m ≡ true))
+  pub waits_none_iff : (o : Option ℕ) → o ≡ waits_for net firings state m
+      → IsNone o ↔ ((has_firing net firings state m ≡ false) ⊎ (can_step net firings state m ≡ true))
   unfolding can_step
   waits_none_iff o is = (
     (λ n. let none : IsNone (waits_for net firings state m) = subst IsNone is n in

@@ -6,10 +6,11 @@ use Rattle.std.proofs.lemmas.Bool.{lt-ltb, le-ltb, cases_eq, eq-eqb, ne_eqb}
 use Rattle.net_ir.specs.declared.network.Queue.{Queue}
 use Rattle.net_ir.specs.Nets.{queue_at, put_by_port, entrances_among, exits_among}
 use Rattle.net_ir.specs.declared.network.Ends.{Ends}
-use Rattle.net_ir.specs.Table.{IsListed}
+use Rattle.net_ir.specs.machine.Table.{IsListed}
 
 -- one number on, in the search for a place
-pub put_further : (queues : List Queue) (n : ℕ) (xs : List ℕ) (i : ℕ) → i < length xs → (queue_at queues (get_or xs i 0)).port < (queue_at queues n).port → take i xs ++ put_by_port queues n (drop i xs) ≡ take (i + 1) xs ++ put_by_port queues n (drop (i + 1) xs)
+pub put_further : (queues : List Queue) (n : ℕ) (xs : List ℕ) (i : ℕ) → i < length xs → (queue_at queues (get_or xs i 0)).port < (queue_at queues n).port
+    → take i xs ++ put_by_port queues n (drop i xs) ≡ take (i + 1) xs ++ put_by_port queues n (drop (i + 1) xs)
 put_further queues n xs i h less =
     let x : ℕ = get_or xs i 0 in
     let rest : List ℕ = drop (i + 1) xs in
@@ -19,7 +20,8 @@ put_further queues n xs i h less =
     ∙ ap (λ ys. ys ++ put_by_port queues n rest) (sym (take_more xs i 0 h))
 
 -- the place is found
-pub put_here : (queues : List Queue) (n : ℕ) (xs : List ℕ) (i : ℕ) → i < length xs → (queue_at queues n).port ≤ (queue_at queues (get_or xs i 0)).port → take i xs ++ put_by_port queues n (drop i xs) ≡ insert xs i n
+pub put_here : (queues : List Queue) (n : ℕ) (xs : List ℕ) (i : ℕ) → i < length xs → (queue_at queues n).port ≤ (queue_at queues (get_or xs i 0)).port
+    → take i xs ++ put_by_port queues n (drop i xs) ≡ insert xs i n
 put_here queues n xs i h more =
     let x : ℕ = get_or xs i 0 in
     let rest : List ℕ = drop (i + 1) xs in
@@ -37,15 +39,20 @@ record IsHalfListed (queues : List Queue) (modules k : ℕ) (ends : List Ends) :
   entrances_at : (m : ℕ) (d : Ends) → m < modules → (get_or ends m d).entrances.items ≡ entrances_among queues m (k + 1)
   exits_at : (m : ℕ) (d : Ends) → m < modules → (get_or ends m d).exits.items ≡ exits_among queues m k
 
-entrances_one : (queues : List Queue) (m k : ℕ) (b : Bool) → ((queue_at queues k).to == m) ≡ b → entrances_among queues m (k + 1) ≡ cond b (put_by_port queues k (entrances_among queues m k)) (entrances_among queues m k)
+entrances_one : (queues : List Queue) (m k : ℕ) (b : Bool) → ((queue_at queues k).to == m) ≡ b
+    → entrances_among queues m (k + 1) ≡ cond b (put_by_port queues k (entrances_among queues m k)) (entrances_among queues m k)
 unfolding entrances_among
-entrances_one queues m k b e = ap (entrances_among queues m) (add-one k) ∙ ap (λ c. cond c (put_by_port queues k (entrances_among queues m k)) (entrances_among queues m k)) e
+entrances_one queues m k b e = ap (entrances_among queues m) (add-one k)
+    ∙ ap (λ c. cond c (put_by_port queues k (entrances_among queues m k)) (entrances_among queues m k)) e
 
-exits_one : (queues : List Queue) (m k : ℕ) (b : Bool) → ((queue_at queues k).from == m) ≡ b → exits_among queues m (k + 1) ≡ cond b (exits_among queues m k ++ k ∷ []) (exits_among queues m k)
+exits_one : (queues : List Queue) (m k : ℕ) (b : Bool) → ((queue_at queues k).from == m) ≡ b
+    → exits_among queues m (k + 1) ≡ cond b (exits_among queues m k ++ k ∷ []) (exits_among queues m k)
 unfolding exits_among
 exits_one queues m k b e = ap (exits_among queues m) (add-one k) ∙ ap (λ c. cond c (exits_among queues m k ++ k ∷ []) (exits_among queues m k)) e
 
-half_listed : (queues : List Queue) (ends : List Ends) (k : ℕ) (new : Ends) → IsListed queues (length ends) k ends → (queue_at queues k).to < length ends → new.entrances.items ≡ put_by_port queues k (entrances_among queues (queue_at queues k).to k) → new.exits.items ≡ exits_among queues (queue_at queues k).to k → IsHalfListed queues (length ends) k (set ends (queue_at queues k).to new)
+half_listed : (queues : List Queue) (ends : List Ends) (k : ℕ) (new : Ends) → IsListed queues (length ends) k ends → (queue_at queues k).to < length ends
+    → new.entrances.items ≡ put_by_port queues k (entrances_among queues (queue_at queues k).to k)
+    → new.exits.items ≡ exits_among queues (queue_at queues k).to k → IsHalfListed queues (length ends) k (set ends (queue_at queues k).to new)
 half_listed queues ends k new old h ins outs =
     let t : ℕ = (queue_at queues k).to in
     record {
@@ -53,7 +60,8 @@ half_listed queues ends k new old h ins outs =
       entrances_at = λ m d j. ⊎_elim
           (λ e. subst (λ x. (get_or (set ends t new) x d).entrances.items ≡ entrances_among queues x (k + 1)) e
           (ap (λ (x : Ends). x.entrances.items) (get_or-set_same ends t new d h) ∙ ins ∙ sym (entrances_one queues t k true (eq-eqb t t refl))))
-          (λ ne. ap (λ (x : Ends). x.entrances.items) (get_or-set_other ends t m new d (λ e. ne (sym e))) ∙ old.entrances_at m d j ∙ sym (entrances_one queues m k false (ne_eqb t m ne)))
+          (λ ne. ap (λ (x : Ends). x.entrances.items) (get_or-set_other ends t m new d (λ e. ne (sym e))) ∙ old.entrances_at m d j
+          ∙ sym (entrances_one queues m k false (ne_eqb t m ne)))
           (cases_eq t m);
       exits_at = λ m d j. ⊎_elim
           (λ e. subst (λ x. (get_or (set ends t new) x d).exits.items ≡ exits_among queues x k) e
@@ -62,7 +70,10 @@ half_listed queues ends k new old h ins outs =
           (cases_eq t m);
     }
 
-whole_listed : (queues : List Queue) (modules : ℕ) (ends : List Ends) (k : ℕ) (new : Ends) → IsHalfListed queues modules k ends → (queue_at queues k).from < modules → ((d : Ends) → new.entrances.items ≡ (get_or ends (queue_at queues k).from d).entrances.items) → ((d : Ends) → new.exits.items ≡ (get_or ends (queue_at queues k).from d).exits.items ++ k ∷ []) → IsListed queues modules (k + 1) (set ends (queue_at queues k).from new)
+whole_listed : (queues : List Queue) (modules : ℕ) (ends : List Ends) (k : ℕ) (new : Ends) → IsHalfListed queues modules k ends
+    → (queue_at queues k).from < modules → ((d : Ends) → new.entrances.items ≡ (get_or ends (queue_at queues k).from d).entrances.items)
+    → ((d : Ends) → new.exits.items ≡ (get_or ends (queue_at queues k).from d).exits.items ++ k ∷ [])
+    → IsListed queues modules (k + 1) (set ends (queue_at queues k).from new)
 whole_listed queues modules ends k new old h ins outs =
     let f : ℕ = (queue_at queues k).from in
     let within : f < length ends = omega (arith, old.whole) in
@@ -75,13 +86,20 @@ whole_listed queues modules ends k new old h ins outs =
           (cases_eq f m);
       exits_at = λ m d j. ⊎_elim
           (λ e. subst (λ x. (get_or (set ends f new) x d).exits.items ≡ exits_among queues x (k + 1)) e
-          (ap (λ (x : Ends). x.exits.items) (get_or-set_same ends f new d within) ∙ outs d ∙ ap (λ xs. xs ++ k ∷ []) (old.exits_at f d h) ∙ sym (exits_one queues f k true (eq-eqb f f refl))))
-          (λ ne. ap (λ (x : Ends). x.exits.items) (get_or-set_other ends f m new d (λ e. ne (sym e))) ∙ old.exits_at m d j ∙ sym (exits_one queues m k false (ne_eqb f m ne)))
+          (ap (λ (x : Ends). x.exits.items) (get_or-set_same ends f new d within) ∙ outs d ∙ ap (λ xs. xs ++ k ∷ []) (old.exits_at f d h)
+          ∙ sym (exits_one queues f k true (eq-eqb f f refl))))
+          (λ ne. ap (λ (x : Ends). x.exits.items) (get_or-set_other ends f m new d (λ e. ne (sym e))) ∙ old.exits_at m d j
+          ∙ sym (exits_one queues m k false (ne_eqb f m ne)))
           (cases_eq f m);
     }
 
 -- one queue more at its two ends: what was there, and what is there now
-pub listed_further : (queues : List Queue) (ends : List Ends) (k : ℕ) (was now from into : Ends) → IsListed queues (length ends) k ends → (queue_at queues k).to < length ends → (queue_at queues k).from < length ends → was ≡ get_or ends (queue_at queues k).to was → now.entrances.items ≡ put_by_port queues k was.entrances.items → now.exits.items ≡ was.exits.items → from ≡ get_or (set ends (queue_at queues k).to now) (queue_at queues k).from from → into.entrances.items ≡ from.entrances.items → into.exits.items ≡ from.exits.items ++ k ∷ [] → IsListed queues (length ends) (k + 1) (set (set ends (queue_at queues k).to now) (queue_at queues k).from into)
+pub listed_further : (queues : List Queue) (ends : List Ends) (k : ℕ) (was now from into : Ends) → IsListed queues (length ends) k ends
+    → (queue_at queues k).to < length ends → (queue_at queues k).from < length ends → was ≡ get_or ends (queue_at queues k).to was
+    → now.entrances.items ≡ put_by_port queues k was.entrances.items → now.exits.items ≡ was.exits.items
+    → from ≡ get_or (set ends (queue_at queues k).to now) (queue_at queues k).from from → into.entrances.items ≡ from.entrances.items
+    → into.exits.items ≡ from.exits.items ++ k ∷ [] → IsListed queues (length ends) (k + 1)
+    (set (set ends (queue_at queues k).to now) (queue_at queues k).from into)
 listed_further queues ends k was now from into old to_in from_in was_is more same from_is kept added =
     let t : ℕ = (queue_at queues k).to in
     let f : ℕ = (queue_at queues k).from in
@@ -93,7 +111,8 @@ listed_further queues ends k was now from into old to_in from_in was_is more sam
     (λ d. kept ∙ ap (λ (x : Ends). x.entrances.items) (from_is ∙ get_or_default (set ends t now) f from d there))
     (λ d. added ∙ ap (λ (x : Ends). x.exits.items ++ k ∷ []) (from_is ∙ get_or_default (set ends t now) f from d there))
 
-pub listed_none : (queues : List Queue) (modules : ℕ) (ends : List Ends) → length ends ≡ modules → All (λ e. (e.entrances.items ≡ []) × (e.exits.items ≡ [])) ends → IsListed queues modules 0 ends
+pub listed_none : (queues : List Queue) (modules : ℕ) (ends : List Ends) → length ends ≡ modules
+    → All (λ e. (e.entrances.items ≡ []) × (e.exits.items ≡ [])) ends → IsListed queues modules 0 ends
 unfolding entrances_among exits_among
 listed_none queues modules ends whole none = record {
   whole = whole;

@@ -15,14 +15,20 @@ use Rattle.net_ir.proofs.Effects.{by_next, take_is, send_is}
 use Rattle.net_ir.proofs.Steps.{taken_next, sent_next, taken_least, sent_least}
 
 -- a take that waits: the sender has completed few firings
-taking : (done sent age_to age_from lead capacity firings to from : ℕ) → sent ≤ done - lead → lead ≤ done → done < firings - age_to → from ≢ to → (from < to → (age_from ≤ age_to + lead) × (age_to + lead < age_from + capacity)) → (to < from → (age_from < age_to + lead) × (age_to + lead ≤ age_from + capacity)) → (((sent + age_from < done + age_to) ⊎ ((sent + age_from ≤ done + age_to) × (from < to))) × (sent < firings - age_from))
+taking : (done sent age_to age_from lead capacity firings to from : ℕ) → sent ≤ done - lead → lead ≤ done → done < firings - age_to → from ≢ to
+    → (from < to → (age_from ≤ age_to + lead) × (age_to + lead < age_from + capacity))
+    → (to < from → (age_from < age_to + lead) × (age_to + lead ≤ age_from + capacity))
+    → (((sent + age_from < done + age_to) ⊎ ((sent + age_from ≤ done + age_to) × (from < to))) × (sent < firings - age_from))
 taking done sent age_to age_from lead capacity firings to from few led left apart onward back =
     ⊎_elim (λ h. (inr (omega (arith, onward h), h), omega (arith, onward h)))
     (λ h. let k : to < from = omega arith in (inl (omega (arith, back k)), omega (arith, back k)))
     (cases_lt from to)
 
 -- a send that waits: the receiver has completed few firings
-sending : (done taken age_from age_to lead capacity firings from to : ℕ) → (taken - lead) + capacity ≤ done → done < firings - age_from → from ≢ to → (from < to → (age_from ≤ age_to + lead) × (age_to + lead < age_from + capacity)) → (to < from → (age_from < age_to + lead) × (age_to + lead ≤ age_from + capacity)) → (((taken + age_to < done + age_from) ⊎ ((taken + age_to ≤ done + age_from) × (to < from))) × (taken < firings - age_to))
+sending : (done taken age_from age_to lead capacity firings from to : ℕ) → (taken - lead) + capacity ≤ done → done < firings - age_from → from ≢ to
+    → (from < to → (age_from ≤ age_to + lead) × (age_to + lead < age_from + capacity))
+    → (to < from → (age_from < age_to + lead) × (age_to + lead ≤ age_from + capacity))
+    → (((taken + age_to < done + age_from) ⊎ ((taken + age_to ≤ done + age_from) × (to < from))) × (taken < firings - age_to))
 sending done taken age_from age_to lead capacity firings from to full left apart onward back =
     ⊎_elim (λ h. (inr (omega (arith, back h), h), omega (arith, back h)))
     (λ h. let k : from < to = omega arith in (inl (omega (arith, onward k)), omega (arith, onward k)))
@@ -37,7 +43,8 @@ module _ (net : Net) (firings : ℕ) (network : IsNetwork net) (orderly : IsOrde
   Waited m n = (n < length net.modules) × Falls net state m n × ((turn_at state n).fired < firings_at net firings n)
 
   -- a wait falls, and ends at a module with a firing left
-  wait_falls : (m n : ℕ) → (turn_at state m).fired < firings_at net firings m → is_possible net state (next_event net m (turn_at state m)) ≡ false → other_end net (next_event net m (turn_at state m)) ≡ Some n → Waited m n
+  wait_falls : (m n : ℕ) → (turn_at state m).fired < firings_at net firings m → is_possible net state (next_event net m (turn_at state m)) ≡ false
+      → other_end net (next_event net m (turn_at state m)) ≡ Some n → Waited m n
   unfolding is_possible
   wait_falls m n left =
       let turn : Turn = turn_at state m in
@@ -48,11 +55,15 @@ module _ (net : Net) (firings : ℕ) (network : IsNetwork net) (orderly : IsOrde
       let from : (queue_at net.queues x).from ≡ n = Some-same end in
       let fit = orderly x is.0 in
       let few : (turn_at state n).fired ≤ turn.fired - (queue_at net.queues x).lead =
-      subst (λ y. (turn_at state y).fired ≤ turn.fired - (queue_at net.queues x).lead) from (omega (arith, sent_least net state x, taken_next net state m turn.part x is.1 refl k refl, ltb-false _ _ stuck)) in
+      subst (λ y. (turn_at state y).fired ≤ turn.fired - (queue_at net.queues x).lead) from
+      (omega (arith, sent_least net state x, taken_next net state m turn.part x is.1 refl k refl, ltb-false _ _ stuck)) in
       let apart : n ≢ m = (λ e. network.ends x is.0 (from ∙ e ∙ sym is.1)) in
-      let r = taking turn.fired (turn_at state n).fired (age_at net m) (age_at net n) (queue_at net.queues x).lead (queue_at net.queues x).capacity firings m n few is.2 left apart
-      (λ h. at_ends (λ f t. f < t → (age_at net f ≤ age_at net t + (queue_at net.queues x).lead) × (age_at net t + (queue_at net.queues x).lead < age_at net f + (queue_at net.queues x).capacity)) from is.1 fit.onward h)
-      (λ h. at_ends (λ f t. t < f → (age_at net f < age_at net t + (queue_at net.queues x).lead) × (age_at net t + (queue_at net.queues x).lead ≤ age_at net f + (queue_at net.queues x).capacity)) from is.1 fit.back h) in
+      let r = taking turn.fired (turn_at state n).fired (age_at net m) (age_at net n) (queue_at net.queues x).lead
+      (queue_at net.queues x).capacity firings m n few is.2 left apart
+      (λ h. at_ends (λ f t. f < t → (age_at net f ≤ age_at net t + (queue_at net.queues x).lead)
+      × (age_at net t + (queue_at net.queues x).lead < age_at net f + (queue_at net.queues x).capacity)) from is.1 fit.onward h)
+      (λ h. at_ends (λ f t. t < f → (age_at net f < age_at net t + (queue_at net.queues x).lead)
+      × (age_at net t + (queue_at net.queues x).lead ≤ age_at net f + (queue_at net.queues x).capacity)) from is.1 fit.back h) in
       (subst (λ y. y < length net.modules) from (network.from x is.0), r.0, r.1))
       (λ j k stuck end.
       let x : ℕ = get_or (exits net m) (turn.part - length (takes net m turn.fired)) 0 in
@@ -60,11 +71,21 @@ module _ (net : Net) (firings : ℕ) (network : IsNetwork net) (orderly : IsOrde
       let to : (queue_at net.queues x).to ≡ n = Some-same end in
       let fit = orderly x is.0 in
       let full : ((turn_at state n).fired - (queue_at net.queues x).lead) + (queue_at net.queues x).capacity ≤ turn.fired =
-      subst (λ y. ((turn_at state y).fired - (queue_at net.queues x).lead) + (queue_at net.queues x).capacity ≤ turn.fired) to (omega (arith, taken_least net state x, sent_next net state m (turn.part - length (takes net m turn.fired)) x is.1 refl (omega arith) refl, ltb-false _ _ stuck)) in
+      subst (λ y. ((turn_at state y).fired - (queue_at net.queues x).lead) + (queue_at net.queues x).capacity ≤ turn.fired) to
+      (omega (
+        arith,
+        taken_least net state x,
+        sent_next net state m (turn.part - length (takes net m turn.fired)) x is.1 refl (omega arith)
+            refl,
+        ltb-false _ _ stuck,
+      )) in
       let apart : m ≢ n = (λ e. network.ends x is.0 (is.1 ∙ e ∙ sym to)) in
-      let r = sending turn.fired (turn_at state n).fired (age_at net m) (age_at net n) (queue_at net.queues x).lead (queue_at net.queues x).capacity firings m n full left apart
-      (λ h. at_ends (λ f t. f < t → (age_at net f ≤ age_at net t + (queue_at net.queues x).lead) × (age_at net t + (queue_at net.queues x).lead < age_at net f + (queue_at net.queues x).capacity)) is.1 to fit.onward h)
-      (λ h. at_ends (λ f t. t < f → (age_at net f < age_at net t + (queue_at net.queues x).lead) × (age_at net t + (queue_at net.queues x).lead ≤ age_at net f + (queue_at net.queues x).capacity)) is.1 to fit.back h) in
+      let r = sending turn.fired (turn_at state n).fired (age_at net m) (age_at net n) (queue_at net.queues x).lead
+      (queue_at net.queues x).capacity firings m n full left apart
+      (λ h. at_ends (λ f t. f < t → (age_at net f ≤ age_at net t + (queue_at net.queues x).lead)
+      × (age_at net t + (queue_at net.queues x).lead < age_at net f + (queue_at net.queues x).capacity)) is.1 to fit.onward h)
+      (λ h. at_ends (λ f t. t < f → (age_at net f < age_at net t + (queue_at net.queues x).lead)
+      × (age_at net t + (queue_at net.queues x).lead ≤ age_at net f + (queue_at net.queues x).capacity)) is.1 to fit.back h) in
       (subst (λ y. y < length net.modules) to (network.to x is.0), r.0, r.1))
       (λ k stuck end. absurd (false≢true (sym stuck)))
     where
@@ -77,7 +98,8 @@ module _ (net : Net) (firings : ℕ) (network : IsNetwork net) (orderly : IsOrde
   waits_is m n e =
       let turn : Turn = turn_at state m in
       ⊎_elim
-      (λ b. let p = and_parts _ _ b in wait_falls m n (ltb-true _ _ p.0) (not-true _ p.1) (ap (λ c. cond c (other_end net (next_event net m turn)) None) (sym b) ∙ e))
+      (λ b. let p = and_parts _ _ b in wait_falls m n (ltb-true _ _ p.0) (not-true _ p.1)
+      (ap (λ c. cond c (other_end net (next_event net m turn)) None) (sym b) ∙ e))
       (λ b. absurd (none_some (ap (λ c. cond c (other_end net (next_event net m turn)) None) (sym b) ∙ e)))
       (cases_Bool (has_firing net firings state m && not (is_possible net state (next_event net m turn))))
     where
@@ -119,7 +141,8 @@ module _ (net : Net) (firings : ℕ) (network : IsNetwork net) (orderly : IsOrde
       (λ x. omega (arith, mul-le-mul_left size x.0, x.1))
       f
 
-  walk : (fuel m : ℕ) → m < length net.modules → (turn_at state m).fired < firings_at net firings m → length net.modules * progress net state m + m < fuel → (j : ℕ) × (j < length net.modules) × (can_step net firings state j ≡ true)
+  walk : (fuel m : ℕ) → m < length net.modules → (turn_at state m).fired < firings_at net firings m → length net.modules * progress net state m + m < fuel
+      → (j : ℕ) × (j < length net.modules) × (can_step net firings state j ≡ true)
   unfolding can_step
   walk zero m h left f = absurd (omega arith)
   walk (suc fuel) m h left f =

@@ -13,16 +13,20 @@ module _ (net : Net) (firings : ℕ) (stalled : List Bool) where
   unfolding visit
   visit_other state m n ne =
       ⊎_elim
-      (λ b. ap (λ c. turn_at (cond c (set state m (fired_wholly (turn_at state m))) state) n) b ∙ get_or-set_other state m n (fired_wholly (turn_at state m)) unmoved ne)
+      (λ b. ap (λ c. turn_at (cond c (set state m (fired_wholly (turn_at state m))) state) n) b
+      ∙ get_or-set_other state m n (fired_wholly (turn_at state m)) unmoved ne)
       (λ b. ap (λ c. turn_at (cond c (set state m (fired_wholly (turn_at state m))) state) n) b)
       (cases_Bool (fires net firings stalled state m))
 
-  visit_same : (state : List Turn) (m : ℕ) → m < length state → turn_at (visit net firings stalled state m) m ≡ cond (fires net firings stalled state m) (fired_wholly (turn_at state m)) (turn_at state m)
+  visit_same : (state : List Turn) (m : ℕ) → m < length state
+      → turn_at (visit net firings stalled state m) m ≡ cond (fires net firings stalled state m) (fired_wholly (turn_at state m)) (turn_at state m)
   unfolding visit
   visit_same state m h =
       ⊎_elim
-      (λ b. ap (λ c. turn_at (cond c (set state m (fired_wholly (turn_at state m))) state) m) b ∙ get_or-set_same state m (fired_wholly (turn_at state m)) unmoved h ∙ sym (ap (λ c. cond c (fired_wholly (turn_at state m)) (turn_at state m)) b))
-      (λ b. ap (λ c. turn_at (cond c (set state m (fired_wholly (turn_at state m))) state) m) b ∙ sym (ap (λ c. cond c (fired_wholly (turn_at state m)) (turn_at state m)) b))
+      (λ b. ap (λ c. turn_at (cond c (set state m (fired_wholly (turn_at state m))) state) m) b
+      ∙ get_or-set_same state m (fired_wholly (turn_at state m)) unmoved h ∙ sym (ap (λ c. cond c (fired_wholly (turn_at state m)) (turn_at state m)) b))
+      (λ b. ap (λ c. turn_at (cond c (set state m (fired_wholly (turn_at state m))) state) m) b
+      ∙ sym (ap (λ c. cond c (fired_wholly (turn_at state m)) (turn_at state m)) b))
       (cases_Bool (fires net firings stalled state m))
 
   length-visit : (state : List Turn) (m : ℕ) → length (visit net firings stalled state m) ≡ length state
@@ -69,12 +73,15 @@ module _ (net : Net) (firings : ℕ) (stalled : List Bool) where
           ext_get_or unmoved (met net firings stalled state m) (take m end ++ drop m state)
           (omega (arith, length-met state m, length-append (take m end) (drop m state), length-drop m state))
           (λ i l. ⊎_elim
-          (λ less. sym (full m i (omega arith) less) ∙ sym (get_or_append_left (take m end) (drop m state) unmoved i (omega arith) ∙ get_or-take m end i unmoved less))
+          (λ less. sym (full m i (omega arith) less) ∙ sym (get_or_append_left (take m end) (drop m state) unmoved i (omega arith)
+          ∙ get_or-take m end i unmoved less))
           (λ more. let at : m + (i - m) ≡ i = omega arith in
-          met_later state m i more ∙ sym (get_or-append_right (take m end) (drop m state) m i unmoved front more ∙ get_or-drop m state (i - m) unmoved ∙ ap (λ k. get_or state k unmoved) at))
+          met_later state m i more ∙ sym (get_or-append_right (take m end) (drop m state) m i unmoved front more ∙ get_or-drop m state (i - m) unmoved
+          ∙ ap (λ k. get_or state k unmoved) at))
           (cases_lt i m))
 
-      leaves : (m : ℕ) → m < length net.modules → turn_at (cycle net firings stalled state) m ≡ cond (fires net firings stalled (met net firings stalled state m) m) (fired_wholly (turn_at state m)) (turn_at state m)
+      leaves : (m : ℕ) → m < length net.modules → turn_at (cycle net firings stalled state) m
+          ≡ cond (fires net firings stalled (met net firings stalled state m) m) (fired_wholly (turn_at state m)) (turn_at state m)
       leaves m h =
           let now : List Turn = met net firings stalled state m in
           full (suc m) m (omega arith) (omega arith)

@@ -3,5 +3,5 @@ pub mod Firings
 pub mod States
 pub mod Waits
 pub mod CycleRun
-pub mod Table
+pub mod machine
 pub mod Worked

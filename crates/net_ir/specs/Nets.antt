@@ -34,7 +34,8 @@ put_by_port queues n (x ∷ xs) =
 unfoldable pub entrances_among : List Queue → ℕ → ℕ → List ℕ
 entrances_among queues m zero = []
 entrances_among queues m (suc k) =
-    if (queue_at queues k).to == m then put_by_port queues k (entrances_among queues m k) else entrances_among queues m k
+    if (queue_at queues k).to == m then put_by_port queues k (entrances_among queues m k)
+    else entrances_among queues m k
 
 -- the queues among the first k that begin at a module, in queue order
 unfoldable pub exits_among : List Queue → ℕ → ℕ → List ℕ
@@ -56,7 +57,8 @@ pub record IsNetwork (net : Net) : Type 0 where
   pub to : (n : ℕ) → n < length net.queues → (queue_at net.queues n).to < length net.modules
   pub ends : (n : ℕ) → n < length net.queues → (queue_at net.queues n).from ≢ (queue_at net.queues n).to
   pub ports : (i j : ℕ) → i < j → j < length net.queues
-      → (queue_at net.queues i).to ≡ (queue_at net.queues j).to → (queue_at net.queues i).port ≢ (queue_at net.queues j).port
+      → (queue_at net.queues i).to ≡ (queue_at net.queues j).to
+      → (queue_at net.queues i).port ≢ (queue_at net.queues j).port
 
 -- the list of the queues that end at a module has each of them, in the rising order of their ports
 pub record StandByPort (net : Net) (m : ℕ) : Type 0 where

@@ -116,7 +116,8 @@ other_end net Close = None
 -- the module that a module waits for: the other end of the queue that forbids its next event
 unfoldable pub waits_for : Net → ℕ → List Turn → ℕ → Option ℕ
 waits_for net firings state m =
-    if has_firing net firings state m && not (is_possible net state (next_event net m (turn_at state m))) then other_end net (next_event net m (turn_at state m)) else None
+    if has_firing net firings state m && not (is_possible net state (next_event net m (turn_at state m)))
+    then other_end net (next_event net m (turn_at state m)) else None
 
 -- no module has a firing left
 abbrev pub IsFinished : Net → ℕ → List Turn → Type 0

@@ -4,9 +4,10 @@ ghost use Rattle.net_ir.specs.Firings.{firings_at};
 ghost use Rattle.net_ir.specs.States.{unmoved, turn_at, taken, sent, zeros, after, is_possible, has_firing, can_step, waits_for, IsKnown, IsEvent, IsLawful, IsFinished};
 ghost use Rattle.net_ir.specs.Waits.{NoRing, GoesOn};
 
+use crate::NoMemory;
 use crate::events::{Event, Turn};
 use crate::moves::{next_event, queue_of, sent_by, taken_by, turn_after};
-use crate::network::{Module, Network, NoMemory, Queue};
+use crate::network::{Module, Network, Queue};
 use std::alloc::Global;
 use std::marker::Model;
 
@@ -25,9 +26,14 @@ impl Model for Counts {
 
     ghost Value = { Machine };
 
-    ghost view = { λ c. record { network = record { modules = c.modules.items; queues = c.queues.items }; firings = c.firings; state = c.turns.items } };
+    ghost view = { λ c. record {
+      network = record { modules = c.modules.items; queues = c.queues.items };
+      firings = c.firings;
+      state = c.turns.items;
+    } };
 
-    ghost invariant = { λ c. IsLawful (record { modules = c.modules.items; queues = c.queues.items }) c.firings c.turns.items };
+    ghost invariant = { λ c.
+        IsLawful (record { modules = c.modules.items; queues = c.queues.items }) c.firings c.turns.items };
 }
 
 impl Counts {
@@ -35,12 +41,8 @@ impl Counts {
     pub fn start(alloc: Global, net: &Network, firings: u64) -> Result<Counts, NoMemory>
         ensures { IfOk result (λ c. c ≡ record { network = net.now; firings = firings; state = zeros net.now }) }
     {
-        let Ok(modules) = Vec::from_slice(alloc, net.modules()) else {
-            return Err(NoMemory);
-        };
-        let Ok(queues) = Vec::from_slice(alloc, net.queues()) else {
-            return Err(NoMemory);
-        };
+        let modules = Vec::from_slice(alloc, net.modules())?;
+        let queues = Vec::from_slice(alloc, net.queues())?;
         let turns = unmoved_turns(alloc, net.modules())?;
         Ok(Counts {
             modules,
@@ -104,10 +106,7 @@ fn unmoved_turns(alloc: Global, modules: &[Module]) -> Result<Vec<Turn>, NoMemor
 {
     let mut turns = Vec::new(alloc);
     for _module in modules {
-        match turns.push(Turn { fired: 0, part: 0 }) {
-            Ok(()) => {}
-            Err(_) => return Err(NoMemory),
-        }
+        turns.push(Turn { fired: 0, part: 0 })?;
     }
     Ok(turns)
 }

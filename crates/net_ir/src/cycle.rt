@@ -12,7 +12,7 @@ use crate::moves::queue_of;
 use crate::network::Network;
 
 /// What a cycle did.
-#[derive(Clone, Copy, PartialEq, Eq, Debug)]
+#[derive(Clone, Copy)]
 pub struct CycleCount {
     /// The modules that fired.
     pub fired: u32,

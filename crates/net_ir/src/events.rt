@@ -1,5 +1,5 @@
 /// One event of a firing.
-#[derive(Clone, Copy, PartialEq, Eq, Debug)]
+#[derive(Clone, Copy)]
 pub enum Event {
     /// One item is taken from the queue of this number.
     Take(u32),
@@ -10,7 +10,7 @@ pub enum Event {
 }
 
 /// How far a module has come.
-#[derive(Clone, Copy, PartialEq, Eq, Debug)]
+#[derive(Clone, Copy)]
 pub struct Turn {
     /// The firings that it has completed.
     pub fired: u64,

@@ -25,8 +25,8 @@ pub fn no_ring_of_waits()
         → IsNetwork net → IsOrderly net → IsLawful net firings state → GoesOn net firings state }
 {}
 
-/// In a network whose queues fit the firing order the modules of least progress fire in a cycle without stalls. So a run
-/// of cycles ends in time.
+/// In a network whose queues fit the firing order the modules of least progress fire in a cycle without stalls. So a
+/// run of cycles ends in time.
 pub fn cycles_end_in_time()
     ensures least { (net : Net) (firings : ℕ) (stalled : List Bool) (state : List Turn)
         → IsNetwork net → IsOrderly net → IsLawful net firings state → IsBetween state

@@ -7,8 +7,6 @@ mod events;
 mod laws;
 mod moves;
 mod network;
-#[cfg(test)]
-mod tests;
 
 pub use counts::{Counts, can_step, finished, step, waits_for};
 pub use cycle::{CycleCount, count_cycle, visit};
@@ -17,4 +15,6 @@ pub use laws::{
     capacity_decides, cycles_end_in_time, cycles_visit_each_once, no_ring_of_waits,
     queues_stand_in_order, runs_are_lawful,
 };
-pub use network::{Module, Network, NoMemory, Queue};
+pub use network::{Module, Network, Queue};
+/// Want of memory.
+pub use std::alloc::AllocError as NoMemory;

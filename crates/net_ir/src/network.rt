@@ -1,18 +1,13 @@
 ghost use Rattle.std.specs.Prelude.{◌≡◌, ◌<◌, ◌≤◌, ◌+◌, ◌^◌, ℕ, [], length, IfOk, All};
 ghost use Rattle.net_ir.specs.Nets.{age, queue_at, put_by_port, entrances, exits, IsNetwork};
-ghost use Rattle.net_ir.specs.Table.{IsListed};
+ghost use Rattle.net_ir.specs.machine.Table.{IsListed};
 
+use crate::NoMemory;
 use std::alloc::Global;
 use std::marker::Model;
-use thiserror::Error;
-
-/// There was no memory left.
-#[derive(Clone, Copy, PartialEq, Eq, Debug, Error)]
-#[error("out of memory")]
-pub struct NoMemory;
 
 /// A module of a network. Tensors are named by their staged numbers, lanes count from 0.
-#[derive(Clone, Copy, PartialEq, Eq, Debug)]
+#[derive(Clone, Copy)]
 pub enum Module {
     /// Sends the cells of an input.
     Source { tensor: u32 },
@@ -25,7 +20,7 @@ pub enum Module {
 }
 
 /// A queue of a network. Its ends are numbers of modules.
-#[derive(Clone, Copy, PartialEq, Eq, Debug)]
+#[derive(Clone, Copy)]
 pub struct Queue {
     /// The module that sends.
     pub from: u32,
@@ -59,7 +54,7 @@ impl Model for Network {
 
     ghost Value = { Net };
 
-    ghost use Rattle.net_ir.specs.Table.{IsTable};
+    ghost use Rattle.net_ir.specs.machine.Table.{IsTable};
 
     ghost view = { λ n. record { modules = n.modules.items; queues = n.queues.items } };
 
@@ -147,15 +142,14 @@ fn put_by_port(queues: &[Queue], ports: &mut Vec<u32>, queue: u32) -> Result<(),
     while place < ports.len() && queues[ports[place] as usize].port < port {
         place += 1;
     }
-    match ports.insert(place, queue) {
-        Ok(()) => Ok(()),
-        Err(_) => Err(NoMemory),
-    }
+    ports.insert(place, queue)?;
+    Ok(())
 }
 
 /// As many modules without queues.
 fn no_ends(alloc: Global, modules: usize) -> Result<Vec<Ends>, NoMemory>
-    ensures { IfOk result (λ ends. (length ends.items ≡ modules) × All (λ e. (e.entrances.items ≡ []) × (e.exits.items ≡ [])) ends.items) }
+    ensures { IfOk result (λ ends. (length ends.items ≡ modules)
+        × All (λ e. (e.entrances.items ≡ []) × (e.exits.items ≡ [])) ends.items) }
 {
     let mut ends = Vec::new(alloc);
     for _module in 0..modules {
@@ -163,10 +157,7 @@ fn no_ends(alloc: Global, modules: usize) -> Result<Vec<Ends>, NoMemory>
             entrances: Vec::new(alloc),
             exits: Vec::new(alloc),
         };
-        match ends.push(none) {
-            Ok(()) => {}
-            Err(_) => return Err(NoMemory),
-        }
+        ends.push(none)?;
     }
     Ok(ends)
 }
@@ -183,10 +174,8 @@ fn list_queue(queues: &[Queue], ends: &mut Vec<Ends>, number: u32) -> Result<(),
     let to = &mut ends[queue.to as usize];
     put_by_port(queues, &mut to.entrances, number)?;
     let from = &mut ends[queue.from as usize];
-    match from.exits.push(number) {
-        Ok(()) => Ok(()),
-        Err(_) => Err(NoMemory),
-    }
+    from.exits.push(number)?;
+    Ok(())
 }
 
 /// The queues at each module.

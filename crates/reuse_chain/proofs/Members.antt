@@ -37,7 +37,8 @@ pub filtered : (p : ℕ → Bool) (xs : List ℕ) (x : ℕ) → Contains xs x �
 filtered p [] x h e = none x h
 filtered p (y ∷ ys) x h e =
     ⊎_elim
-    (λ same. subst (λ (b : Bool). Contains (cond b (y ∷ filter p ys) (filter p ys)) x) (sym (subst (λ (z : ℕ). p z ≡ true) (sym same) e)) (subst (λ (z : ℕ). Contains (y ∷ filter p ys) z) same (head y (filter p ys))))
+    (λ same. subst (λ (b : Bool). Contains (cond b (y ∷ filter p ys) (filter p ys)) x) (sym (subst (λ (z : ℕ). p z ≡ true) (sym same) e))
+    (subst (λ (z : ℕ). Contains (y ∷ filter p ys) z) same (head y (filter p ys))))
     (λ later. kept (p y) y (filter p ys) x (filtered p ys x later e))
     (cases y ys x h)
 

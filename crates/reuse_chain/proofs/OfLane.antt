@@ -20,7 +20,8 @@ monotone lane unroll a b h le =
 all_le : (xs : List ℕ) → All (λ x. x ≤ greatest xs) xs
 all_le [] = All-nil _
 all_le (x ∷ xs) =
-    All-cons (λ y. y ≤ greatest (x ∷ xs)) x xs (omega arith) (All-weaker (λ y. y ≤ greatest xs) (λ y. y ≤ greatest (x ∷ xs)) (λ y h. omega arith) xs (all_le xs))
+    All-cons (λ y. y ≤ greatest (x ∷ xs)) x xs (omega arith)
+    (All-weaker (λ y. y ≤ greatest xs) (λ y. y ≤ greatest (x ∷ xs)) (λ y h. omega arith) xs (all_le xs))
 
 has_greatest : (x : ℕ) (xs : List ℕ) → Contains (x ∷ xs) (greatest (x ∷ xs))
 has_greatest x [] =
@@ -44,7 +45,8 @@ greatest_le (x ∷ xs) m h =
 cycles_le : (ages : List ℕ) (lane unroll : ℕ) → 0 < unroll → All (λ t. t ≤ age_in_cycles lane unroll (greatest ages)) (map (age_in_cycles lane unroll) ages)
 cycles_le ages lane unroll h =
     All-map (λ t. t ≤ age_in_cycles lane unroll (greatest ages)) (age_in_cycles lane unroll) ages
-    (All-weaker (λ a. a ≤ greatest ages) (λ a. age_in_cycles lane unroll a ≤ age_in_cycles lane unroll (greatest ages)) (λ a le. monotone lane unroll a (greatest ages) h le) ages (all_le ages))
+    (All-weaker (λ a. a ≤ greatest ages) (λ a. age_in_cycles lane unroll a ≤ age_in_cycles lane unroll (greatest ages))
+    (λ a le. monotone lane unroll a (greatest ages) h le) ages (all_le ages))
 
 equal : (x y : ℕ) → nat_eq x y ≡ true → x ≡ y
 equal x y h = grind arith
@@ -58,9 +60,11 @@ taps_there ages lane unroll h =
     record {
       rising = IsStrictlyIncreasing-filter test (range_with_len 0 n) (range_rises n);
       each = λ tap. (
-        λ is. Contains-from_any equal tap cycles (All-contains (λ y. test y ≡ true) (filter test (range_with_len 0 n)) tap (filter_passes test (range_with_len 0 n)) is),
+        λ is. Contains-from_any equal tap cycles (All-contains (λ y. test y ≡ true) (filter test (range_with_len 0 n)) tap
+            (filter_passes test (range_with_len 0 n)) is),
         λ has.
-            let le : tap ≤ age_in_cycles lane unroll (greatest ages) = All-contains (λ t. t ≤ age_in_cycles lane unroll (greatest ages)) cycles tap (cycles_le ages lane unroll h) has in
+            let le : tap ≤ age_in_cycles lane unroll (greatest ages) = All-contains (λ t. t ≤ age_in_cycles lane unroll (greatest ages)) cycles tap
+            (cycles_le ages lane unroll h) has in
             filtered test (range_with_len 0 n) tap (ranged n tap (omega arith)) (list_any-from_Contains nat_eq_equiv tap cycles has),
       );
     }
@@ -68,13 +72,15 @@ taps_there ages lane unroll h =
 pub taps_one : (ages : List ℕ) (lane unroll : ℕ) (taps : List ℕ) → 0 < unroll → IsTaps ages lane unroll taps → taps ≡ taps_of ages lane unroll
 taps_one ages lane unroll taps h is =
     let there : IsTaps ages lane unroll (taps_of ages lane unroll) = taps_there ages lane unroll h in
-    same taps (taps_of ages lane unroll) (rises taps is.rising) (rises (taps_of ages lane unroll) there.rising) (λ z has. (there.each z).1 ((is.each z).0 has)) (λ z has. (is.each z).1 ((there.each z).0 has))
+    same taps (taps_of ages lane unroll) (rises taps is.rising) (rises (taps_of ages lane unroll) there.rising) (λ z has. (there.each z).1 ((is.each z).0 has))
+    (λ z has. (is.each z).1 ((there.each z).0 has))
 
 nothing : (ts : List ℕ) → ((t : ℕ) → Contains ts t → ⊥) → ts ≡ []
 nothing [] h = refl
 nothing (t ∷ ts) h = absurd (h t (head t ts))
 
-last_tap : (ages : List ℕ) (lane unroll : ℕ) (ts : List ℕ) → lane < unroll → IsTaps ages lane unroll ts → greatest ts ≡ age_in_cycles lane unroll (greatest ages)
+last_tap : (ages : List ℕ) (lane unroll : ℕ) (ts : List ℕ) → lane < unroll → IsTaps ages lane unroll ts
+    → greatest ts ≡ age_in_cycles lane unroll (greatest ages)
 last_tap [] lane unroll ts h is =
     let empty : ts ≡ [] = nothing ts (λ t has. none t ((is.each t).0 has)) in
     let few : lane + 0 < unroll = omega arith in
@@ -82,9 +88,12 @@ last_tap [] lane unroll ts h is =
 last_tap (a ∷ ages) lane unroll ts h is =
     let top : ℕ = age_in_cycles lane unroll (greatest (a ∷ ages)) in
     let low : greatest ts ≤ age_in_cycles lane unroll (greatest (a ∷ ages)) = greatest_le ts (age_in_cycles lane unroll (greatest (a ∷ ages))) (λ k d below.
-    All-contains (λ t. t ≤ age_in_cycles lane unroll (greatest (a ∷ ages))) (map (age_in_cycles lane unroll) (a ∷ ages)) (get_or ts k d) (cycles_le (a ∷ ages) lane unroll (omega arith)) ((is.each (get_or ts k d)).0 (Contains-get_or ts k d below))) in
-    let high : age_in_cycles lane unroll (greatest (a ∷ ages)) ≤ greatest ts = All-contains (λ t. t ≤ greatest ts) ts (age_in_cycles lane unroll (greatest (a ∷ ages))) (all_le ts)
-    ((is.each (age_in_cycles lane unroll (greatest (a ∷ ages)))).1 (mapped (age_in_cycles lane unroll) (a ∷ ages) (greatest (a ∷ ages)) (has_greatest a ages))) in
+    All-contains (λ t. t ≤ age_in_cycles lane unroll (greatest (a ∷ ages))) (map (age_in_cycles lane unroll) (a ∷ ages)) (get_or ts k d)
+    (cycles_le (a ∷ ages) lane unroll (omega arith)) ((is.each (get_or ts k d)).0 (Contains-get_or ts k d below))) in
+    let high : age_in_cycles lane unroll (greatest (a ∷ ages))
+    ≤ greatest ts = All-contains (λ t. t ≤ greatest ts) ts (age_in_cycles lane unroll (greatest (a ∷ ages))) (all_le ts)
+    ((is.each (age_in_cycles lane unroll (greatest (a ∷ ages)))).1
+    (mapped (age_in_cycles lane unroll) (a ∷ ages) (greatest (a ∷ ages)) (has_greatest a ages))) in
     omega arith
 
 -- the gaps of one lane sum to the age in cycles of its oldest read

@@ -33,7 +33,8 @@ first_le y ys x above h =
     ⊎_elim (λ e. omega arith) (λ later. omega (arith, All-contains (λ z. y < z) ys x above later)) (cases y ys x h)
 
 -- an element of the rest is one of the other rest
-rest_in : (x y : ℕ) (xs ys : List ℕ) → x ≡ y → All (λ z. x < z) xs → ((z : ℕ) → Contains (x ∷ xs) z → Contains (y ∷ ys) z) → (z : ℕ) → Contains xs z → Contains ys z
+rest_in : (x y : ℕ) (xs ys : List ℕ) → x ≡ y → All (λ z. x < z) xs → ((z : ℕ) → Contains (x ∷ xs) z → Contains (y ∷ ys) z) → (z : ℕ) → Contains xs z
+    → Contains ys z
 rest_in x y xs ys e above to z h =
     ⊎_elim
     (λ same. absurd (omega (arith, All-contains (λ v. x < v) xs z above h)))

@@ -20,7 +20,8 @@ greatest (age ∷ ages) = max age (greatest ages)
 -- the taps of a lane: of the numbers from 0 on, in order, those that are the age in cycles of a read
 unfoldable pub taps_of : List ℕ → ℕ → ℕ → List ℕ
 taps_of ages lane unroll =
-    filter (λ tap. list_any (nat_eq tap) (map (age_in_cycles lane unroll) ages)) (range_with_len 0 (age_in_cycles lane unroll (greatest ages) + 1))
+    filter (λ tap. list_any (nat_eq tap) (map (age_in_cycles lane unroll) ages))
+    (range_with_len 0 (age_in_cycles lane unroll (greatest ages) + 1))
 
 -- each number less the one before it, where `before` stands before the first
 abbrev pub differences : ℕ → List ℕ → List ℕ

@@ -8,11 +8,13 @@ TapsAreThere = (ages : List ℕ) (lane unroll : ℕ) → 0 < unroll → IsTaps a
 
 -- and no other list is
 abbrev pub TapsAreOne : Type 0
-TapsAreOne = (ages : List ℕ) (lane unroll : ℕ) (taps : List ℕ) → 0 < unroll → IsTaps ages lane unroll taps → taps ≡ taps_of ages lane unroll
+TapsAreOne = (ages : List ℕ) (lane unroll : ℕ) (taps : List ℕ) → 0 < unroll → IsTaps ages lane unroll taps
+    → taps ≡ taps_of ages lane unroll
 
 -- the gaps of one lane sum to the age in cycles of its oldest read
 abbrev pub GapsOfLane : Type 0
-GapsOfLane = (ages : List ℕ) (lane unroll : ℕ) → lane < unroll → sum (gaps_of (taps_of ages lane unroll)) ≡ age_in_cycles lane unroll (greatest ages)
+GapsOfLane = (ages : List ℕ) (lane unroll : ℕ) → lane < unroll
+    → sum (gaps_of (taps_of ages lane unroll)) ≡ age_in_cycles lane unroll (greatest ages)
 
 -- the gaps of all lanes together sum to the greatest age, whatever the unroll factor
 abbrev pub GapsOfAllLanes : Type 0

@@ -6,8 +6,8 @@ pub fn taps_are_unique()
     ensures one { TapsAreOne }
 {}
 
-/// The gaps of one lane sum to the age in cycles of its oldest read, and those of all lanes together to the greatest age,
-/// which is the storage of the tensor in cells, whatever the unroll factor.
+/// The gaps of one lane sum to the age in cycles of its oldest read, and those of all lanes together to the greatest
+/// age, which is the storage of the tensor in cells, whatever the unroll factor.
 pub fn gaps_sum_to_storage()
     ensures lane { GapsOfLane }
     ensures all { GapsOfAllLanes }

@@ -7,13 +7,13 @@ use Rattle.std.proofs.lemmas.Option.{slice_get_past, slice_get_read}
 use Rattle.std.specs.List.{list_any, position_from}
 use Rattle.std.proofs.lemmas.Bool.Decides.{Decides-ltb, Decides-like, same_from_decides}
 use Rattle.soda_checks.specs.Outline.{is_one_of}
-use Rattle.soda_words.proofs.Tables as tables
+use Rattle.soda_words.proofs.CallerLemmas as words
 use Rattle.soda_words.specs.Names.{is_word}
 use Rattle.soda_words.specs.declared.token.Word.{Word}
 
 -- a word that has a place is among the names
 pub listed : (w : List ℕ) (names : List (List ℕ)) → is_some (position (is_word w) names) ≡ list_any (is_word w) names
-listed w names = tables.is_some-position (is_word w) names
+listed w names = words.is_some-position (is_word w) names
 
 -- a test of images
 pub list_any_map : {X Y : Type 0} (f : X → Y) (p : Y → Bool) (xs : List X) → list_any p (map f xs) ≡ list_any (λ x. p (f x)) xs
@@ -61,7 +61,7 @@ pub before : (n : ℕ) (ws : List Word) (w : Word) → is_one_of (take n ws) w �
 before n ws w =
     let test : Word → Bool = λ v. is_word w.text v.text in
     before_from test n ws ∙ ap (λ o. is_place_below o n)
-    (sym (tables.position-from test ws) ∙ sym (tables.position-map (λ v. v.text) (is_word w.text) ws))
+    (sym (words.position-from test ws) ∙ sym (words.position-map (λ v. v.text) (is_word w.text) ws))
 
 module _ (n : ℕ) (ws : List Word) (w : Word) (names : List (List ℕ)) (are : names ≡ map (λ v. v.text) ws) where
   -- the first place, compared
@@ -79,13 +79,13 @@ module _ {X : Type 0} (name : X → List ℕ) (w : List ℕ) where
   pub named : (xs : List X) (names : List (List ℕ)) (k : ℕ) → names ≡ map name xs → position (is_word w) names ≡ Some k
       → find (λ x. is_word w (name x)) xs ≡ slice_get xs k
   named xs names k are at =
-      tables.find-place (λ x. is_word w (name x)) xs k (sym (tables.position-map name (is_word w) xs) ∙ (ap (position (is_word w)) (sym are) ∙ at))
+      words.find-place (λ x. is_word w (name x)) xs k (sym (words.position-map name (is_word w) xs) ∙ (ap (position (is_word w)) (sym are) ∙ at))
 
   -- nothing has a name without a place
   pub unnamed : (xs : List X) (names : List (List ℕ)) → names ≡ map name xs → position (is_word w) names ≡ None
       → find (λ x. is_word w (name x)) xs ≡ None
   unnamed xs names are at =
-      tables.find-no_place (λ x. is_word w (name x)) xs (sym (tables.position-map name (is_word w) xs) ∙ (ap (position (is_word w)) (sym are) ∙ at))
+      words.find-no_place (λ x. is_word w (name x)) xs (sym (words.position-map name (is_word w) xs) ∙ (ap (position (is_word w)) (sym are) ∙ at))
 
 -- what `get` gives of a list
 pub got : {X : Type 0} (xs : List X) (i : ℕ) (o : Option (Bor X)) → is_some o ≡ ltb i (length xs) → IfSome o (λ x. x.now ≡ get_or xs i x.now)

@@ -1,5 +1,7 @@
 -- The machine reads each formula.
 use Rattle.std.proofs.Common.{◌≡◌, ℕ, suc, ◌≤◌, ◌<◌, nat_le, true, false, List, [], ◌∷◌, ◌++◌, length, Option, Some, None, ℤ, refl, ◌∙◌, ap, arith, append_assoc}
+use Rattle.std.proofs.lemmas.Option.{same_Some}
+use Rattle.std.proofs.lemmas.Bool.{lt-leb, le-leb}
 use Rattle.soda_words.specs.declared.operators.UnOp.TheVariants.{Abs}
 use Rattle.soda_words.specs.declared.symbol.Symbol.{Symbol}
 use Rattle.soda_words.specs.declared.symbol.Symbol.TheVariants.{OpenRound, CloseRound, Comma}
@@ -8,8 +10,8 @@ use Rattle.soda_words.specs.declared.token.Token.TheVariants.{Sign}
 use Rattle.soda_words.specs.declared.token.Word.{Word}
 use Rattle.soda_formula.specs.Terms.{Term, literal, cell, value, unary, binary, choice, cast}
 use Rattle.soda_formula.specs.Grammar.{Infix, infix_of, symbol_on, word_on, IsTerm, tighter, joined, prefixed, a_literal, bracketed, a_cast, an_abs, a_call, a_choice, a_cell, a_value, IsComponent, ahead, back, AreParted, last_item, item_before, AreIndexes, no_index, index_before}
-use Rattle.soda_formula.specs.Machine.{Frame, behind_prefix, behind_infix, in_group, in_cast, in_abs, in_first, in_second, in_test, in_then, in_else, Mode, wanted, called, whole, named, at_component, behind_component, indexed, State, Held, in_state, reduce, closing, parting, infix_after, sign_after, sign_begun, after, name_followed, index_followed, feed, feeds, then_feed, operand, word_mode, start, ends, left_alone, finished}
-use Rattle.soda_formula.proofs.Words.{le-false, le-true, infix-level, infix-opening, word-cast, word-call, word-free}
+use Rattle.soda_formula.specs.machine.Steps.{Frame, behind_prefix, behind_infix, in_group, in_cast, in_abs, in_first, in_second, in_test, in_then, in_else, Mode, wanted, called, whole, named, at_component, behind_component, indexed, State, Held, in_state, reduce, closing, parting, infix_after, sign_after, sign_begun, after, name_followed, index_followed, feed, feeds, then_feed, operand, word_mode, start, ends, left_alone, finished}
+use Rattle.soda_formula.proofs.Words.{infix-level, infix-opening, word-cast, word-call, word-free}
 
 pub feeds-append : (o : Option State) (ts us : List Placed) → feeds o (ts ++ us) ≡ feeds (feeds o ts) us
 feeds-append o [] us = refl
@@ -36,7 +38,7 @@ fits-up l (f ∷ fs) h = tt
 reduce-fits : (l : ℕ) (fs : List Frame) (t : Term) → Fits l fs → l ≤ 8 → reduce l fs t ≡ record { frames = fs; term = t }
 reduce-fits l [] t h b = refl
 reduce-fits l (behind_prefix op ∷ fs) t h b = absurd (omega arith)
-reduce-fits l (behind_infix k op a ∷ fs) t h b = let e : nat_le l k ≡ false = le-false l k h in rw e
+reduce-fits l (behind_infix k op a ∷ fs) t h b = let e : nat_le l k ≡ false = lt-leb l k h in rw e
 reduce-fits l (f ∷ fs) t h b = refl
 
 -- the state behind the tokens of a term of this level, where these frames are around it
@@ -52,33 +54,30 @@ after-infix : (fs : List Frame) (s : Symbol) (i : Infix) (u t : Term) → infix_
 after-infix fs s i u t e d =
     ap (λ o. sign_after o s fs u) e ∙ ap (λ x. infix_after i (reduce i.level fs x)) d
 
-some-same : {A : Type 0} (a b : A) → Some a ≡ Some b → a ≡ b
-some-same a b e = cc
-
 infix-step : (m : Mode) (fs : List Frame) (line : ℕ) (s : Symbol) (i : Infix) (t : Term) → infix_of s ≡ Some i → operand m ≡ Some t → feed m fs (symbol_on line s) ≡ infix_after i (reduce i.level fs t)
-infix-step (whole u) fs line s i t e d = after-infix fs s i u t e (some-same u t d)
+infix-step (whole u) fs line s i t e d = after-infix fs s i u t e (same_Some u t d)
 infix-step (named w) fs line s i t e d =
-    ap (λ o. name_followed o w fs (Sign s)) (infix-opening s i e) ∙ after-infix fs s i (value w []) t e (some-same _ t d)
+    ap (λ o. name_followed o w fs (Sign s)) (infix-opening s i e) ∙ after-infix fs s i (value w []) t e (same_Some _ t d)
 infix-step (indexed w is) fs line s i t e d =
-    ap (λ o. index_followed o w is fs (Sign s)) (infix-opening s i e) ∙ after-infix fs s i (value w is) t e (some-same _ t d)
+    ap (λ o. index_followed o w is fs (Sign s)) (infix-opening s i e) ∙ after-infix fs s i (value w is) t e (same_Some _ t d)
 infix-step _ fs line s i t e d = cc
 
 pub close-step : (m : Mode) (fs : List Frame) (line : ℕ) (t : Term) (h : Held) → operand m ≡ Some t → reduce 0 fs t ≡ h → feed m fs (symbol_on line CloseRound) ≡ closing h.frames h.term
 close-step (whole u) fs line t h d r =
-    ap (λ (x : Held). closing x.frames x.term) (ap (reduce 0 fs) (some-same u t d) ∙ r)
+    ap (λ (x : Held). closing x.frames x.term) (ap (reduce 0 fs) (same_Some u t d) ∙ r)
 close-step (named w) fs line t h d r =
-    ap (λ (x : Held). closing x.frames x.term) (ap (reduce 0 fs) (some-same (value w []) t d) ∙ r)
+    ap (λ (x : Held). closing x.frames x.term) (ap (reduce 0 fs) (same_Some (value w []) t d) ∙ r)
 close-step (indexed w is) fs line t h d r =
-    ap (λ (x : Held). closing x.frames x.term) (ap (reduce 0 fs) (some-same (value w is) t d) ∙ r)
+    ap (λ (x : Held). closing x.frames x.term) (ap (reduce 0 fs) (same_Some (value w is) t d) ∙ r)
 close-step _ fs line t h d r = cc
 
 pub part-step : (m : Mode) (fs : List Frame) (line : ℕ) (t : Term) (h : Held) → operand m ≡ Some t → reduce 0 fs t ≡ h → feed m fs (symbol_on line Comma) ≡ parting h.frames h.term
 part-step (whole u) fs line t h d r =
-    ap (λ (x : Held). parting x.frames x.term) (ap (reduce 0 fs) (some-same u t d) ∙ r)
+    ap (λ (x : Held). parting x.frames x.term) (ap (reduce 0 fs) (same_Some u t d) ∙ r)
 part-step (named w) fs line t h d r =
-    ap (λ (x : Held). parting x.frames x.term) (ap (reduce 0 fs) (some-same (value w []) t d) ∙ r)
+    ap (λ (x : Held). parting x.frames x.term) (ap (reduce 0 fs) (same_Some (value w []) t d) ∙ r)
 part-step (indexed w is) fs line t h d r =
-    ap (λ (x : Held). parting x.frames x.term) (ap (reduce 0 fs) (some-same (value w is) t d) ∙ r)
+    ap (λ (x : Held). parting x.frames x.term) (ap (reduce 0 fs) (same_Some (value w is) t d) ∙ r)
 part-step _ fs line t h d r = cc
 
 go_on : (o : Option State) (ts us : List Placed) (p : Placed) (s : State) (next : Option State) → feeds o ts ≡ Some s → feed s.mode s.frames p ≡ next → feeds o (ts ++ p ∷ us) ≡ feeds next us
@@ -131,7 +130,7 @@ completes (joined {level = l} {ts = ts} {us = us} {a = a} {b = b} line s op e x 
     let q = completes y (behind_infix l op a ∷ fs) (omega arith) in
     let here : reduce l r.0.frames r.2.term ≡ record { frames = fs; term = a } = r.2.same l (omega arith) ∙ reduce-fits l fs a f low in
     let step : feed r.0.mode r.0.frames (symbol_on line s) ≡ in_state wanted (behind_infix l op a ∷ fs) = infix-step r.0.mode r.0.frames line s (record { level = l; op = op }) r.2.term e r.2.operand_is ∙ ap (infix_after (record { level = l; op = op })) here in
-    (q.0, go_on (in_state wanted fs) ts us (symbol_on line s) r.0 _ r.1 step ∙ q.1, record { term = q.2.term; operand_is = q.2.operand_is; same = λ m h. q.2.same m (omega arith) ∙ (let k : nat_le m l ≡ true = le-true m l h in rw k) })
+    (q.0, go_on (in_state wanted fs) ts us (symbol_on line s) r.0 _ r.1 step ∙ q.1, record { term = q.2.term; operand_is = q.2.operand_is; same = λ m h. q.2.same m (omega arith) ∙ (let k : nat_le m l ≡ true = le-leb m l h in rw k) })
 completes (prefixed {ts = ts} {a = a} line s op e x) fs f =
     let r = completes x (behind_prefix op ∷ fs) (omega arith) in
     (r.0, ap (λ o. feeds (sign_begun o s fs) ts) e ∙ r.1, record { term = r.2.term; operand_is = r.2.operand_is; same = λ m h. r.2.same m h })

@@ -1,5 +1,6 @@
 -- The reader's frames, the innermost last, against the machine's.
 use Rattle.std.proofs.Common.{◌≡◌, ℕ, ◌≤◌, ◌<◌, nat_le, true, false, List, [], ◌∷◌, ◌++◌, length, Option, Some, None, option_map, refl, sym, ◌∙◌, ap, arith, length-append}
+use Rattle.std.proofs.lemmas.Bool.{le-leb, lt-leb}
 use Rattle.soda_words.specs.declared.operators.UnOp.{UnOp}
 use Rattle.soda_formula.specs.declared.written.Written.{Written}
 use Rattle.soda_formula.specs.declared.frame.Infix.{Infix as Operator}
@@ -7,9 +8,8 @@ use Rattle.soda_formula.specs.declared.frame.Frame.{Frame as Waiting}
 use Rattle.soda_formula.specs.declared.frame.Frame.TheVariants as waiting
 use Rattle.soda_formula.specs.Terms.{Term, unary, binary}
 use Rattle.soda_formula.specs.Tree.{term_of}
-use Rattle.soda_formula.specs.Machine.{Frame, wanted, whole, in_state, reduce, enclosed, closing, parted, parting, left_alone, start}
-use Rattle.soda_formula.specs.Views.{frame_of, frames_of, stacked}
-use Rattle.soda_formula.proofs.Words.{le-true, le-false}
+use Rattle.soda_formula.specs.machine.Steps.{Frame, wanted, whole, in_state, reduce, enclosed, closing, parted, parting, left_alone, start}
+use Rattle.soda_formula.specs.machine.Views.{frame_of, frames_of, stacked}
 
 stacked-push : (around : List Frame) (fs : List Waiting) (f : Waiting) → stacked around (fs ++ f ∷ []) ≡ frame_of f ∷ stacked around fs
 unfolding stacked
@@ -40,12 +40,12 @@ reduce-prefix l before fs f op t w e g d =
 
 pub reduce-infix : (l : ℕ) (before fs : List Waiting) (f : Waiting) (i : Operator) (a : Written) (t : Term) (w : Written) → before ≡ fs ++ f ∷ [] → f ≡ waiting.Infix i a → l ≤ i.level → term_of w ≡ binary i.op (term_of a) t → (reduce l (frames_of before) t ≡ reduce l (frames_of fs) (term_of w)) × (length fs < length before)
 reduce-infix l before fs f i a t w e g h d =
-    let k : nat_le l i.level ≡ true = le-true l i.level h in
+    let k : nat_le l i.level ≡ true = le-leb l i.level h in
     (rw (frames-last before fs f e, g, k, d), shorter before fs f e)
 
 pub reduce-looser : (l : ℕ) (before fs after : List Waiting) (f : Waiting) (i : Operator) (a : Written) (t : Term) → before ≡ fs ++ f ∷ [] → f ≡ waiting.Infix i a → after ≡ fs ++ waiting.Infix i a ∷ [] → i.level < l → reduce l (frames_of before) t ≡ record { frames = frames_of after; term = t }
 reduce-looser l before fs after f i a t e g d h =
-    let k : nat_le l i.level ≡ false = le-false l i.level h in
+    let k : nat_le l i.level ≡ false = lt-leb l i.level h in
     rw (frames-last before fs f e, g, frames-last after fs (waiting.Infix i a) d, k)
 
 at-bracket : (l : ℕ) (f : Waiting) (fs : List Frame) (t : Term) → ((op : UnOp) → f ≡ waiting.Prefix op → ⊥) → ((i : Operator) (a : Written) → f ≡ waiting.Infix i a → ⊥) → reduce l (frame_of f ∷ fs) t ≡ record { frames = frame_of f ∷ fs; term = t }

@@ -13,8 +13,8 @@ use Rattle.soda_formula.specs.Grammar.{IsFormula}
 use Rattle.soda_formula.specs.Reading.{Place, outside, open_behind, open_brackets_from, open_brackets, counted, place_behind, counted_tokens_from, counted_tokens, IsLarge, IsGoodPart, BeginsFormula, ReadsFormula, StopsFormula}
 use Rattle.soda_formula.specs.Fails.{IfWrong}
 use Rattle.soda_formula.specs.Tree.{term_of}
-use Rattle.soda_formula.specs.Machine.{State, feed, feeds, then_feed, start, ends, finish}
-use Rattle.soda_formula.specs.Views.{place_as, mode_of, frames_of, state_of, IsFed}
+use Rattle.soda_formula.specs.machine.Steps.{State, feed, feeds, then_feed, start, ends, finish}
+use Rattle.soda_formula.specs.machine.Views.{place_as, mode_of, frames_of, state_of, IsFed}
 use Rattle.soda_formula.proofs.Complete.{feeds-append, formula-ends}
 use Rattle.soda_formula.proofs.Viable.{ends-formula, fed-begins, refused-begins}
 

@@ -5,7 +5,7 @@ use Rattle.soda_words.specs.declared.token.Placed.{Placed}
 use Rattle.soda_formula.specs.Terms.{Term}
 use Rattle.soda_formula.specs.Grammar.{IsFormula, symbol_on, name_on}
 use Rattle.soda_formula.specs.Reading.{BeginsFormula}
-use Rattle.soda_formula.specs.Machine.{Frame, Mode, wanted, whole, named, indexed, State, feed, feeds, then_feed, operand, start, ends, finished}
+use Rattle.soda_formula.specs.machine.Steps.{Frame, Mode, wanted, whole, named, indexed, State, feed, feeds, then_feed, operand, start, ends, finished}
 use Rattle.soda_formula.proofs.Complete.{feeds-append, feeds-none, formula-ends}
 use Rattle.soda_formula.proofs.Viable.{refused-begins}
 

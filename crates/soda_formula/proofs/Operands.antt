@@ -1,5 +1,6 @@
 -- What the machine holds stands for the tokens that it read: operands, and each token.
 use Rattle.std.proofs.Common.{append-nil, ◌≡◌, ℕ, ◌==◌, nat_lt, Bool, true, false, List, [], ◌∷◌, ◌++◌, length, codes, Option, Some, None, ℤ, pos, neg_ℤ, refl, sym, ap, subst, arith, append_assoc, length-append, if◌then◌else◌}
+use Rattle.std.proofs.lemmas.Bool.{ltb-true}
 use Rattle.std.proofs.lemmas.Bool.Decides.{nat_tests}
 use Rattle.soda_words.specs.declared.operators.UnOp.{UnOp}
 use Rattle.soda_words.specs.declared.operators.BinOp.TheVariants.{Min, Max}
@@ -12,8 +13,7 @@ use Rattle.soda_words.specs.declared.token.Token.TheVariants.{Name, Number, Sign
 use Rattle.soda_words.specs.declared.token.Word.{Word}
 use Rattle.soda_formula.specs.Terms.{value}
 use Rattle.soda_formula.specs.Grammar.{prefix_of, symbol_on, name_on, number_on, word_on, a_literal, a_cell, a_value, IsComponent, ahead, back, AreParted, last_item, item_before, AreIndexes, no_index, index_before}
-use Rattle.soda_formula.specs.Machine.{Frame, in_cast, in_abs, in_first, in_test, Mode, wanted, called, whole, named, at_component, at_magnitude, behind_component, at_index, at_close, indexed, State, in_state, sign_begun, after, name_followed, index_followed, opening_of, component, magnitude, component_followed, index, index_closed, opened, begun, feed, feeds, then_feed, word_mode, start}
-use Rattle.soda_formula.proofs.Words.{true-lt}
+use Rattle.soda_formula.specs.machine.Steps.{Frame, in_cast, in_abs, in_first, in_test, Mode, wanted, called, whole, named, at_component, at_magnitude, behind_component, at_index, at_close, indexed, State, in_state, sign_begun, after, name_followed, index_followed, opening_of, component, magnitude, component_followed, index, index_closed, opened, begun, feed, feeds, then_feed, word_mode, start}
 use Rattle.soda_formula.proofs.Sound.{Open, Describes, Tells, after-tells}
 
 -- one token more
@@ -119,7 +119,7 @@ close-tells _ line w is fs ts h = tt
 
 again-tells : (few : Bool) (line : ℕ) (w : Word) (is : List ℕ) (fs : List Frame) (ts : List Placed) → nat_lt (length is) 2 ≡ few → Describes (indexed w is) fs ts → Tells (if few then in_state (at_index w is) fs else None) (ts ++ symbol_on line OpenSquare ∷ [])
 again-tells true line w is fs ts b (front, us, e, o, (vs, d, r, x, few)) =
-    (front, word_on w ∷ (vs ++ symbol_on line OpenSquare ∷ []), more ts front us (word_on w ∷ vs) (word_on w ∷ (vs ++ symbol_on line OpenSquare ∷ [])) (symbol_on line OpenSquare) e d refl, o, (line, vs, refl, r, x, true-lt (length is) 2 b))
+    (front, word_on w ∷ (vs ++ symbol_on line OpenSquare ∷ []), more ts front us (word_on w ∷ vs) (word_on w ∷ (vs ++ symbol_on line OpenSquare ∷ [])) (symbol_on line OpenSquare) e d refl, o, (line, vs, refl, r, x, ltb-true (length is) 2 b))
 again-tells false line w is fs ts b h = tt
 
 indexed-after : (k : Token) (line : ℕ) (w : Word) (is : List ℕ) (fs : List Frame) (ts : List Placed) → Describes (indexed w is) fs ts → Tells (after fs (value w is) k) (ts ++ record { line = line; token = k } ∷ [])

@@ -6,7 +6,7 @@ use Rattle.soda_words.specs.declared.token.Token.{Token}
 use Rattle.soda_words.specs.declared.token.Token.TheVariants.{Sign}
 use Rattle.soda_words.specs.declared.token.Word.{Word}
 use Rattle.soda_formula.specs.Reading.{open_behind, counted, place_behind, place_outside, behind_name, in_offsets}
-use Rattle.soda_formula.specs.Machine.{Frame, Held, none, round, mark_after, group_begun, opened, opening_of, component, component_followed, index_closed}
+use Rattle.soda_formula.specs.machine.Steps.{Frame, Held, none, round, mark_after, group_begun, opened, opening_of, component, component_followed, index_closed}
 
 pub no-mark : (s : Symbol) (h : Held) → (s ≡ CloseRound → ⊥) → (s ≡ Comma → ⊥) → mark_after s h ≡ None
 no-mark CloseRound h n m = absurd (n refl)

@@ -1,5 +1,6 @@
 -- What the machine holds stands for the tokens that it read.
 use Rattle.std.proofs.Common.{◌≡◌, ℕ, zero, suc, ◌+◌, ◌-◌, ◌≤◌, ◌<◌, nat_le, Bool, true, false, List, [], ◌∷◌, ◌++◌, length, codes, Option, Some, None, IfSome, ℤ, refl, sym, ◌∙◌, ap, subst, arith, append_assoc, if◌then◌else◌}
+use Rattle.std.proofs.lemmas.Bool.{leb-true, leb-false}
 use Rattle.soda_words.specs.Names.{is_cast_word, is_reserved}
 use Rattle.soda_words.specs.declared.symbol.Symbol.{Symbol}
 use Rattle.soda_words.specs.declared.symbol.Symbol.TheVariants.{MinusSign, OpenRound, CloseRound, OpenSquare, CloseSquare, Comma}
@@ -8,8 +9,8 @@ use Rattle.soda_words.specs.declared.token.Token.{Token}
 use Rattle.soda_words.specs.declared.token.Token.TheVariants.{Sign}
 use Rattle.soda_formula.specs.Terms.{Term, unary, binary}
 use Rattle.soda_formula.specs.Grammar.{Infix, infix_of, prefix_of, call_text, symbol_on, name_on, word_on, IsTerm, tighter, joined, prefixed, bracketed, a_cast, an_abs, a_call, a_choice, IsComponent, AreParted, AreIndexes}
-use Rattle.soda_formula.specs.Machine.{Frame, behind_prefix, behind_infix, in_group, in_cast, in_abs, in_first, in_second, in_test, in_then, in_else, Mode, wanted, called, whole, named, at_component, at_magnitude, behind_component, at_index, at_close, indexed, State, Held, reduce, closing, parting, sign_after, after}
-use Rattle.soda_formula.proofs.Words.{infix-level, true-le, false-le}
+use Rattle.soda_formula.specs.machine.Steps.{Frame, behind_prefix, behind_infix, in_group, in_cast, in_abs, in_first, in_second, in_test, in_then, in_else, Mode, wanted, called, whole, named, at_component, at_magnitude, behind_component, at_index, at_close, indexed, State, Held, reduce, closing, parting, sign_after, after}
+use Rattle.soda_formula.proofs.Words.{infix-level}
 use Rattle.soda_formula.proofs.Complete.{Fits, fits-up}
 
 -- the tokens of a frame
@@ -110,8 +111,8 @@ held-same : (l : ℕ) (h : Held) (ts us : List Placed) → ts ≡ us → Held-as
 held-same l h ts us e x = let P : List Placed → Type 0 = λ v. Held-as l v h in subst P e x
 
 chosen : (l k : ℕ) (ts : List Placed) (a b : Held) (c : Bool) → nat_le l k ≡ c → (l ≤ k → Held-as l ts a) → (k < l → Held-as l ts b) → Held-as l ts (if c then a else b)
-chosen l k ts a b true e y n = y (true-le l k e)
-chosen l k ts a b false e y n = n (false-le l k e)
+chosen l k ts a b true e y n = y (leb-true l k e)
+chosen l k ts a b false e y n = n (leb-false l k e)
 
 pub reduced : (l : ℕ) (fs : List Frame) (t : Term) (m : ℕ) (ts us : List Placed) → Open fs ts → IsTerm m us t → Fits m fs → l ≤ m → l ≤ 8 → Held-as l (ts ++ us) (reduce l fs t)
 reduced l [] t m ts us o x f h b = ((ts, us, refl, o, loosen m l us t h x), tt)

@@ -1,13 +1,13 @@
 -- Where the machine may end it has a formula, and wherever it is some tokens lead it there.
 use Rattle.std.proofs.Common.{◌≡◌, ℕ, nat_le, true, List, [], ◌∷◌, ◌++◌, Option, Some, None, ℤ, refl, sym, ◌∙◌, ap, subst, arith, pos, neg_ℤ}
+use Rattle.std.proofs.lemmas.Bool.{le-leb}
 use Rattle.soda_words.specs.declared.operators.UnOp.TheVariants.{Abs}
 use Rattle.soda_words.specs.declared.symbol.Symbol.TheVariants.{OpenRound, CloseRound, CloseSquare, Comma}
 use Rattle.soda_words.specs.declared.token.Placed.{Placed}
 use Rattle.soda_formula.specs.Terms.{Term, literal, cell, value, unary, binary, choice, cast}
 use Rattle.soda_formula.specs.Grammar.{symbol_on, number_on, IsTerm, IsFormula, a_value, no_index}
 use Rattle.soda_formula.specs.Reading.{BeginsFormula}
-use Rattle.soda_formula.specs.Machine.{Frame, behind_prefix, behind_infix, in_group, in_cast, in_abs, in_first, in_second, in_test, in_then, in_else, Mode, wanted, called, whole, named, at_component, at_magnitude, behind_component, at_index, at_close, indexed, State, in_state, reduce, closing, parting, feed, feeds, then_feed, operand, start, ends, finished, left_alone}
-use Rattle.soda_formula.proofs.Words.{le-true}
+use Rattle.soda_formula.specs.machine.Steps.{Frame, behind_prefix, behind_infix, in_group, in_cast, in_abs, in_first, in_second, in_test, in_then, in_else, Mode, wanted, called, whole, named, at_component, at_magnitude, behind_component, at_index, at_close, indexed, State, in_state, reduce, closing, parting, feed, feeds, then_feed, operand, start, ends, finished, left_alone}
 use Rattle.soda_formula.proofs.Complete.{feeds-append, feeds-none, fits-up, close-step, part-step, formula-ends}
 use Rattle.soda_formula.proofs.Sound.{Behind, Describes, Tells, reduced, fits-prefix}
 use Rattle.soda_formula.proofs.Operands.{start-tells}
@@ -68,7 +68,7 @@ leads [] t = ([], t, λ m gs u d r. ap (λ o. finished o gs) d ∙ ap left_alone
 leads (behind_prefix op ∷ fs) t = leads fs (unary op t)
 leads (behind_infix k op b ∷ fs) t =
     let (rest, a, h) = leads fs (binary op b t) in
-    (rest, a, λ m gs u d r. h m gs u d (r ∙ (let e : nat_le 0 k ≡ true = le-true 0 k (omega arith) in rw e)))
+    (rest, a, λ m gs u d r. h m gs u d (r ∙ (let e : nat_le 0 k ≡ true = le-leb 0 k (omega arith) in rw e)))
 leads (in_group ∷ fs) t = closing-leads in_group fs t t refl refl (leads fs t)
 leads (in_cast w ∷ fs) t = closing-leads (in_cast w) fs t (cast w t) refl refl (leads fs (cast w t))
 leads (in_abs ∷ fs) t = closing-leads in_abs fs t (unary Abs t) refl refl (leads fs (unary Abs t))

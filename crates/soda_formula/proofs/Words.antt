@@ -1,6 +1,6 @@
 -- Small facts of the machine: words, operators and tests.
 use Rattle.std.proofs.Common.{◌≡◌, ℕ, ◌≤◌, ◌<◌, Bool, true, false, nat_le, nat_lt, ◌||◌, List, codes, Option, Some, None, if◌then◌else◌, refl, arith, sym, ◌∙◌, ap}
-use Rattle.std.proofs.lemmas.Bool.Decides.{nat_tests}
+use Rattle.std.proofs.lemmas.Bool.{leb-true}
 use Rattle.soda_words.specs.declared.operators.BinOp.{BinOp}
 use Rattle.soda_words.specs.declared.operators.BinOp.TheVariants.{Min, Max}
 use Rattle.soda_words.specs.Names.{is_cast_word, is_word, is_reserved}
@@ -9,22 +9,7 @@ use Rattle.soda_words.specs.declared.symbol.Symbol.TheVariants.{BarBar, OpenRoun
 use Rattle.soda_words.specs.declared.token.Token.TheVariants.{Sign}
 use Rattle.soda_words.specs.declared.token.Word.{Word}
 use Rattle.soda_formula.specs.Grammar.{Infix, infix_of, call_text}
-use Rattle.soda_formula.specs.Machine.{Mode, called, named, in_cast, in_abs, in_first, in_test, none, opening_of, word_mode}
-
-pub le-true : (a b : ℕ) → a ≤ b → nat_le a b ≡ true
-le-true a b h = grind (arith, nat_tests)
-
-pub le-false : (a b : ℕ) → b < a → nat_le a b ≡ false
-le-false a b h = grind (arith, nat_tests)
-
-pub true-le : (a b : ℕ) → nat_le a b ≡ true → a ≤ b
-true-le a b h = grind (arith, nat_tests)
-
-pub false-le : (a b : ℕ) → nat_le a b ≡ false → b < a
-false-le a b h = grind (arith, nat_tests)
-
-pub true-lt : (a b : ℕ) → nat_lt a b ≡ true → a < b
-true-lt a b h = grind (arith, nat_tests)
+use Rattle.soda_formula.specs.machine.Steps.{Mode, called, named, in_cast, in_abs, in_first, in_test, none, opening_of, word_mode}
 
 -- the levels of operators between two operands
 abbrev is_below_prefix : Option Infix → Bool
@@ -36,7 +21,7 @@ below_prefix BarBar = refl
 below_prefix _ = refl
 
 pub infix-level : (s : Symbol) (i : Infix) → infix_of s ≡ Some i → i.level ≤ 8
-infix-level s i e = true-le i.level 8 (rw e at (below_prefix s))
+infix-level s i e = leb-true i.level 8 (rw e at (below_prefix s))
 
 pub infix-opening : (s : Symbol) (i : Infix) → infix_of s ≡ Some i → opening_of (Sign s) ≡ none
 infix-opening OpenRound i e = cc
@@ -77,6 +62,10 @@ mode-select w a b c d e = rw (a, b, c, d, e)
 
 pub mode-name : (w : Word) → is_cast_word w.text ≡ false → is_word (codes "min") w.text ≡ false → is_word (codes "max") w.text ≡ false → is_word (codes "abs") w.text ≡ false → is_word (codes "select") w.text ≡ false → named w ≡ word_mode w
 mode-name w a b c d e = rw (a, b, c, d, e)
+
+-- a test for a word, at the bytes that both are
+pub at-word : (now word now' text : List ℕ) (b : Bool) → now ≡ word → now' ≡ text → b ≡ is_word now now' → is_word word text ≡ b
+at-word now word now' text b e t h = sym (h ∙ ap (λ w. is_word w now') e ∙ ap (is_word word) t)
 
 -- a test of some bytes, at the bytes that they are
 pub at-text : (test : List ℕ → Bool) (now text : List ℕ) (b : Bool) → now ≡ text → b ≡ test now → test text ≡ b

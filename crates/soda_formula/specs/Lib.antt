@@ -4,5 +4,4 @@ pub mod Reading
 pub mod Tree
 pub mod Statements
 pub mod Fails
-pub mod Machine
-pub mod Views
+pub mod machine

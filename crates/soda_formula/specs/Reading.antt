@@ -1,5 +1,6 @@
--- How a formula is read from the front of tokens: what begins one, which are too large, and where the first token is wrong.
+-- How a formula is read from the front of tokens: what begins one, which are too large, and the first wrong token.
 use Rattle.std.specs.Prelude.{◌⊎◌, ℕ, suc, ◌+◌, ◌-◌, ◌<◌, ◌≤◌, List, [], ◌∷◌, ◌++◌, length, take, if◌then◌else◌}
+use Rattle.soda_words.specs.Limits.{most_brackets, most_tokens}
 use Rattle.soda_words.specs.Names.{is_reserved}
 use Rattle.soda_words.specs.declared.symbol.Symbol.TheVariants.{MinusSign, OpenRound, CloseRound, OpenSquare, CloseSquare}
 use Rattle.soda_words.specs.declared.token.Placed.{Placed}
@@ -7,14 +8,6 @@ use Rattle.soda_words.specs.declared.token.Token.{Token}
 use Rattle.soda_words.specs.declared.token.Token.TheVariants.{Name, Sign}
 use Rattle.soda_formula.specs.Terms.{Term}
 use Rattle.soda_formula.specs.Grammar.{IsFormula}
-
--- the most tokens of a formula that count
-abbrev pub most_tokens : ℕ
-most_tokens = 1500
-
--- the most brackets open at once in a formula
-abbrev pub most_open : ℕ
-most_open = 64
 
 -- how many brackets are open behind a token, where so many were before it
 abbrev pub open_behind : ℕ → Token → ℕ
@@ -75,7 +68,7 @@ BeginsFormula ts = (rest : List Placed) × (a : Term) × IsFormula (ts ++ rest) 
 
 -- a formula, or the beginning of one, that has too many brackets open or too many tokens by now
 abbrev pub IsLarge : List Placed → Type 0
-IsLarge part = (most_open < open_brackets part) ⊎ (most_tokens < counted_tokens part)
+IsLarge part = (most_brackets < open_brackets part) ⊎ (most_tokens < counted_tokens part)
 
 -- nothing is wrong with these tokens as the beginning of a formula
 pub record IsGoodPart (part : List Placed) : Type 0 where
@@ -89,7 +82,8 @@ pub record ReadsFormula (ts : List Placed) (n : ℕ) (a : Term) : Type 0 where
   pub small : (j : ℕ) → j ≤ n → IsLarge (take j ts) → ⊥
   pub ended : suc n ≤ length ts → BeginsFormula (take (suc n) ts) → ⊥
 
--- the first n tokens begin a formula and are not too large, and with the next one, if there is one, this is not so; the first n are no whole formula, unless one goes on with the next token
+-- the first n tokens begin a formula and are not too large, and with the next one, if there is one, this is not so; the
+-- first n are no whole formula, unless one goes on with the next token
 pub record StopsFormula (ts : List Placed) (n : ℕ) : Type 0 where
   pub within : n ≤ length ts
   pub good : (j : ℕ) → j ≤ n → IsGoodPart (take j ts)

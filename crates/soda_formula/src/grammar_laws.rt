@@ -17,7 +17,8 @@ pub fn formula_is_some()
 
 /// A whole formula goes on with no name.
 pub fn name_ends_formula()
-    ensures { (ts : List Placed) (a : Term) (line : ℕ) (w : List ℕ) → IsFormula ts a → BeginsFormula (ts ++ name_on line w ∷ []) → ⊥ }
+    ensures { (ts : List Placed) (a : Term) (line : ℕ) (w : List ℕ)
+        → IsFormula ts a → BeginsFormula (ts ++ name_on line w ∷ []) → ⊥ }
 {}
 
 /// `=` stands in no formula.

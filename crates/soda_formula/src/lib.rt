@@ -1,4 +1,4 @@
-//! Formulas and statements as program texts write them; the grammar of formulas, and reading one from the front of tokens.
+//! Formulas and statements as program texts write them, the grammar of formulas, and reading one from the start of tokens.
 #![tactic(auto)]
 
 mod frame;
@@ -12,15 +12,13 @@ mod reading;
 mod size;
 mod stack;
 mod statement;
-#[cfg(test)]
-mod tests;
 mod trees;
 mod values;
 mod written;
 
 pub use grammar_laws::{formula_is_one, formula_is_some, name_ends_formula, no_equals_sign};
 pub use reading::{FormulaFail, read_formula};
-/// Want of memory.
 pub use statement::{Extent, FormulaLine, InputLine, ParamLine, Size, Statement};
+/// Want of memory.
 pub use std::alloc::AllocError as NoMemory;
 pub use written::Written;

@@ -1,8 +1,8 @@
 #![tactic(auto, using(crate::proofs::Refusals::refusals))]
 
 ghost use Rattle.std.specs.Prelude.{◌++◌, ◌∷◌, [], IfOk};
-ghost use Rattle.soda_formula.specs.Machine.{in_state, component, magnitude, component_followed, index, index_closed, behind_component, at_close};
-ghost use Rattle.soda_formula.specs.Views.{frames_of, IsFed};
+ghost use Rattle.soda_formula.specs.machine.Steps.{in_state, component, magnitude, component_followed, index, index_closed, behind_component, at_close};
+ghost use Rattle.soda_formula.specs.machine.Views.{frames_of, IsFed};
 
 use crate::NoMemory;
 use crate::frame::{Fed, Frame, Mode, Reader};
@@ -53,7 +53,8 @@ fn with_component(
     offsets: Items<i128>,
     component: i128,
 ) -> Result<Fed, NoMemory>
-    ensures { IfOk result (IsFed (in_state (behind_component tensor (offsets ++ component ∷ [])) (frames_of frames)) None) }
+    ensures { IfOk result
+        (IsFed (in_state (behind_component tensor (offsets ++ component ∷ [])) (frames_of frames)) None) }
 {
     let mut offsets = offsets;
     offsets.push(component)?;

@@ -2,9 +2,9 @@
 
 ghost use Rattle.std.specs.Prelude.{◌≡◌, IfOk, option_map};
 ghost use Rattle.soda_formula.specs.Grammar.{infix_of};
-ghost use Rattle.soda_formula.specs.Machine.{reduce, left_alone, enclosed, parted, closing, parting, mark_after, sign_after, after};
+ghost use Rattle.soda_formula.specs.machine.Steps.{reduce, left_alone, enclosed, parted, closing, parting, mark_after, sign_after, after};
 ghost use Rattle.soda_formula.specs.Tree.{term_of};
-ghost use Rattle.soda_formula.specs.Views.{frame_of, frames_of, IsFed};
+ghost use Rattle.soda_formula.specs.machine.Views.{frame_of, frames_of, held, IsFed};
 
 use crate::frame::{Fed, Frame, Mode, Reader};
 use crate::operators::infix_of;
@@ -22,7 +22,9 @@ pub(crate) fn behind_operand(
     operand: Written,
     token: &Token,
 ) -> Result<Fed, NoMemory>
-    ensures { IfOk result (IsFed (after (frames_of frames) (term_of operand) token.now) (left_alone (reduce 0 (frames_of frames) (term_of operand)))) }
+    ensures { IfOk result
+        (IsFed (after (frames_of frames) (term_of operand) token.now)
+        (left_alone (reduce 0 (frames_of frames) (term_of operand)))) }
 {
     match token {
         Token::Sign(symbol) => behind_sign(alloc, frames, operand, *symbol),
@@ -38,7 +40,9 @@ fn behind_sign(
     operand: Written,
     symbol: Symbol,
 ) -> Result<Fed, NoMemory>
-    ensures { IfOk result (IsFed (sign_after (infix_of symbol) symbol (frames_of frames) (term_of operand)) (left_alone (reduce 0 (frames_of frames) (term_of operand)))) }
+    ensures { IfOk result
+        (IsFed (sign_after (infix_of symbol) symbol (frames_of frames) (term_of operand))
+        (left_alone (reduce 0 (frames_of frames) (term_of operand)))) }
 {
     let mut frames = frames;
     match infix_of(symbol) {
@@ -59,7 +63,7 @@ fn behind_mark(
     operand: Written,
     symbol: Symbol,
 ) -> Result<Fed, NoMemory>
-    ensures { IfOk result (IsFed (mark_after symbol (record { frames = frames_of frames; term = term_of operand })) (left_alone (record { frames = frames_of frames; term = term_of operand }))) }
+    ensures { IfOk result (IsFed (mark_after symbol (held frames operand)) (left_alone (held frames operand))) }
 {
     match symbol {
         Symbol::CloseRound => behind_close(alloc, frames, operand),
@@ -69,7 +73,8 @@ fn behind_mark(
 }
 
 fn behind_close(alloc: Global, frames: Items<Frame>, operand: Written) -> Result<Fed, NoMemory>
-    ensures { IfOk result (IsFed (closing (frames_of frames) (term_of operand)) (left_alone (record { frames = frames_of frames; term = term_of operand }))) }
+    ensures { IfOk result
+        (IsFed (closing (frames_of frames) (term_of operand)) (left_alone (held frames operand))) }
 {
     let mut frames = frames;
     let Some(frame) = frames.pop() else {
@@ -112,7 +117,8 @@ fn enclosed(alloc: Global, frame: Frame, operand: Written) -> Result<Option<Writ
 }
 
 fn behind_comma(frames: Items<Frame>, operand: Written) -> Result<Fed, NoMemory>
-    ensures { IfOk result (IsFed (parting (frames_of frames) (term_of operand)) (left_alone (record { frames = frames_of frames; term = term_of operand }))) }
+    ensures { IfOk result
+        (IsFed (parting (frames_of frames) (term_of operand)) (left_alone (held frames operand))) }
 {
     let mut frames = frames;
     let Some(frame) = frames.pop() else {

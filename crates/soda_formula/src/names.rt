@@ -2,15 +2,14 @@
 
 ghost use Rattle.std.specs.Prelude.{◌≡◌, IfOk};
 ghost use Rattle.soda_formula.specs.Grammar.{prefix_of};
-ghost use Rattle.soda_formula.specs.Machine.{word_mode, opened, opening_of, begun, sign_begun, group_begun};
-ghost use Rattle.soda_formula.specs.Views.{frame_of, frames_of, mode_of, opening_as, IsFed};
+ghost use Rattle.soda_formula.specs.machine.Steps.{word_mode, opened, opening_of, begun, sign_begun, group_begun};
+ghost use Rattle.soda_formula.specs.machine.Views.{frame_of, frames_of, mode_of, opening_as, IsFed};
 
 use crate::NoMemory;
 use crate::frame::{Fed, Frame, Mode, Opening, Reader};
-use crate::operators::prefix_of;
 use crate::stack::waiting;
 use crate::trees::number;
-use soda_words::{BinOp, Placed, Symbol, Token, Word, is_cast_word, is_word};
+use soda_words::{BinOp, Placed, Symbol, Token, UnOp, Word, is_cast_word, is_word};
 use sqlite_items::Items;
 use std::alloc::Global;
 
@@ -41,11 +40,11 @@ fn word_mode(word: Word) -> Mode
     let text = word.text.as_slice();
     if is_cast_word(text) {
         Mode::Called(Frame::Cast(word))
-    } else if is_word(b"min", text) {
+    } else if is_word(BinOp::Min.spelling(), text) {
         Mode::Called(Frame::First(BinOp::Min))
-    } else if is_word(b"max", text) {
+    } else if is_word(BinOp::Max.spelling(), text) {
         Mode::Called(Frame::First(BinOp::Max))
-    } else if is_word(b"abs", text) {
+    } else if is_word(UnOp::Abs.spelling(), text) {
         Mode::Called(Frame::Abs)
     } else if is_word(b"select", text) {
         Mode::Called(Frame::Test)
@@ -57,7 +56,7 @@ fn word_mode(word: Word) -> Mode
 fn sign_begun(frames: Items<Frame>, symbol: Symbol) -> Result<Fed, NoMemory>
     ensures { IfOk result (IsFed (sign_begun (prefix_of symbol) symbol (frames_of frames)) None) }
 {
-    match prefix_of(symbol) {
+    match symbol.unary() {
         Some(op) => Ok(Fed::On(waiting(frames, Frame::Prefix(op))?)),
         None => group_begun(frames, symbol),
     }

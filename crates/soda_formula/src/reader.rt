@@ -12,9 +12,9 @@ use std::alloc::Global;
 
 impl Reader {
     ghost use Rattle.std.specs.Prelude.{◌≡◌, IfOk, Some, option_map};
-    ghost use Rattle.soda_formula.specs.Machine.{start, feed, finish};
+    ghost use Rattle.soda_formula.specs.machine.Steps.{start, feed, finish};
     ghost use Rattle.soda_formula.specs.Tree.{term_of};
-    ghost use Rattle.soda_formula.specs.Views.{mode_of, frames_of, state_of, IsFed};
+    ghost use Rattle.soda_formula.specs.machine.Views.{mode_of, frames_of, state_of, IsFed};
 
     /// Where a formula begins.
     pub(crate) fn new(alloc: Global) -> Reader
@@ -57,7 +57,8 @@ impl Reader {
 
     /// What the next token does.
     pub(crate) fn feed(self, alloc: Global, placed: &Placed) -> Result<Fed, NoMemory>
-        ensures { IfOk result (IsFed (feed (mode_of self.mode) (frames_of self.frames) placed.now) (finish (state_of self))) }
+        ensures { IfOk result
+            (IsFed (feed (mode_of self.mode) (frames_of self.frames) placed.now) (finish (state_of self))) }
     {
         let Reader { mode, frames } = self;
         let token = &placed.token;

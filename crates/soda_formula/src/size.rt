@@ -1,17 +1,13 @@
 #![tactic(auto, using(crate::proofs::Refusals::refusals))]
 
 ghost use Rattle.std.specs.Prelude.{◌≡◌, ◌+◌, ◌<◌, ◌≤◌, ◌⊎◌, MatchBool};
+ghost use Rattle.soda_words.specs.Limits.{most_brackets, most_tokens};
 ghost use Rattle.soda_formula.specs.Reading.{outside, open_behind, counted, place_behind, place_outside};
-ghost use Rattle.soda_formula.specs.Views.{place_as};
+ghost use Rattle.soda_formula.specs.machine.Views.{place_as};
 
 use crate::frame::Opening;
 use crate::names::opening_of;
-use soda_words::{Symbol, Token, is_reserved};
-
-/// The most brackets open at once in a formula.
-const MOST_OPEN: u32 = 64;
-/// The most tokens of a formula that count.
-const MOST_TOKENS: u32 = 1500;
+use soda_words::{MOST_BRACKETS, MOST_TOKENS, Symbol, Token, is_reserved};
 
 /// Where the next token of a formula stands.
 #[derive(Clone, Copy)]
@@ -51,8 +47,8 @@ impl Size {
 
     /// The size with one token more.
     pub(crate) fn with(self, token: &Token) -> Size
-        requires few_open { self.brackets ≤ 64 }
-        requires few_counted { self.counted ≤ 1500 }
+        requires few_open { self.brackets ≤ most_brackets }
+        requires few_counted { self.counted ≤ most_tokens }
         ensures brackets { result.brackets ≡ open_behind self.brackets token.now }
         ensures counted { result.counted ≡ self.counted + counted (place_as self.place) token.now }
         ensures place { place_as result.place ≡ place_behind (place_as self.place) token.now }
@@ -66,14 +62,16 @@ impl Size {
 
     /// Whether too many brackets are open or too many tokens count.
     pub(crate) fn is_large(self) -> bool
-        ensures { MatchBool result ((64 < self.brackets) ⊎ (1500 < self.counted)) ((self.brackets ≤ 64) × (self.counted ≤ 1500)) }
+        ensures { MatchBool result
+            ((most_brackets < self.brackets) ⊎ (most_tokens < self.counted))
+            ((self.brackets ≤ most_brackets) × (self.counted ≤ most_tokens)) }
     {
-        MOST_OPEN < self.brackets || MOST_TOKENS < self.counted
+        MOST_BRACKETS < self.brackets || MOST_TOKENS < self.counted
     }
 }
 
 fn open_behind(before: u32, token: &Token) -> u32
-    requires { before ≤ 64 }
+    requires { before ≤ most_brackets }
     ensures { result ≡ open_behind before token.now }
 {
     match token {

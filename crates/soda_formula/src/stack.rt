@@ -1,7 +1,7 @@
 ghost use Rattle.std.specs.Prelude.{◌≡◌, ◌∷◌, IfOk, option_map};
-ghost use Rattle.soda_formula.specs.Machine.{reduce, left_alone, in_state, wanted};
+ghost use Rattle.soda_formula.specs.machine.Steps.{reduce, left_alone, in_state, wanted};
 ghost use Rattle.soda_formula.specs.Tree.{term_of};
-ghost use Rattle.soda_formula.specs.Views.{frame_of, frames_of, state_of, IsTaken};
+ghost use Rattle.soda_formula.specs.machine.Views.{frame_of, frames_of, held, state_of, IsTaken};
 
 use crate::frame::{Frame, Mode, Reader, Taken};
 use crate::trees::{binary, unary};
@@ -16,7 +16,8 @@ pub(crate) fn reduced(
     level: u8,
     operand: Written,
 ) -> Result<Written, NoMemory>
-    ensures { IfOk result (λ w. reduce level (frames_of frames.old) (term_of operand) ≡ record { frames = frames_of frames.new; term = term_of w }) }
+    ensures { IfOk result
+        (λ w. reduce level (frames_of frames.old) (term_of operand) ≡ held frames.new w) }
 {
     let mut operand = operand;
     loop {
@@ -70,7 +71,7 @@ pub(crate) fn alone(
 
 /// The operand, if nothing waits.
 pub(crate) fn lone(frames: &Items<Frame>, operand: Written) -> Option<Written>
-    ensures { option_map term_of result ≡ left_alone (record { frames = frames_of frames.now; term = term_of operand }) }
+    ensures { option_map term_of result ≡ left_alone (held frames.now operand) }
 {
     if frames.is_empty() {
         Some(operand)

@@ -12,7 +12,8 @@ use Rattle.soda_io.specs.declared.mem_id.MemId.{MemId}
 use Rattle.soda_io.specs.declared.call.FileCall.{FileCall}
 use Rattle.soda_io.specs.declared.call.FileCall.TheVariants.{Open, Create, Read, Write}
 use Rattle.soda_io.specs.Held.{held}
-use Rattle.soda_io.specs.Ids.{field_at, name_at, opened_at, place_at, AllHeld}
+use Rattle.soda_io.specs.Ids.{field_at, name_at, opened_at, place_at}
+use Rattle.soda_io.specs.Machine.Given.{AllHeld}
 use Rattle.soda_io.specs.Store.{Store, content, left, Puts, KeepsIds, Opens, Creates, Reads, Writes, IsFresh}
 use Rattle.soda_io.proofs.Fields.{field_at-push, field_at-pushed, field_at-read, field_at-set, field_at-set_here, field_at-set_same}
 
@@ -21,6 +22,15 @@ Map = BTreeMap (String Global) (Vec ℕ Global)
 
 abbrev pub store_of : Map → List MemId → List FileCall → Store
 store_of files is calls = record { bytes = held files; name = name_at is; opened = opened_at is; place = place_at is; calls = calls }
+
+-- what holds of a store in memory holds of one with the same parts
+pub moved : (P : ℕ → Store → Type 0) (m n : Map) (is js : List MemId) (a b : List FileCall) → m ≡ n → is ≡ js → a ≡ b
+    → P (length is) (store_of m is a) → P (length js) (store_of n js b)
+moved P m n is js a b same_files same_ids same_calls holds =
+    let F : Map → Type 0 = λ x. P (length is) (store_of x is a) in
+    let I : List MemId → Type 0 = λ x. P (length x) (store_of n x a) in
+    let C : List FileCall → Type 0 = λ x. P (length js) (store_of n js x) in
+    subst C same_calls (subst I same_ids (subst F same_files holds))
 
 -- one more id
 module _ (is js : List MemId) (i : MemId) (pushed : js ≡ is ++ i ∷ []) where

@@ -1,3 +1,4 @@
+pub mod Limits
 pub mod Cause
 pub mod Store
 pub mod Bytes
@@ -5,3 +6,4 @@ pub mod Held
 pub mod Ids
 pub mod Mem
 pub mod MemSinks
+pub mod Machine

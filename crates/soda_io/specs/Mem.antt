@@ -1,5 +1,6 @@
 -- What files in memory stand for.
 use Rattle.std.specs.Prelude.{◌≡◌, ◌⊎◌, ℕ, ◌≤◌, List, length, None, Contains}
+use Rattle.soda_io.specs.Limits.{most_ids}
 use Rattle.soda_io.specs.Store.{Store}
 use Rattle.soda_io.specs.Held.{held}
 use Rattle.soda_io.specs.Ids.{name_at, opened_at, place_at}
@@ -33,8 +34,8 @@ NextFails m = Contains (mem_fails m) (length m.calls.items)
 
 -- an `open` fails: its number is listed, the name isn't held, or no id is left
 abbrev pub OpenFails : MemFiles → List ℕ → Type 0
-OpenFails m name = NextFails m ⊎ (held m.files name ≡ None) ⊎ (4294967295 ≤ mem_given m)
+OpenFails m name = NextFails m ⊎ (held m.files name ≡ None) ⊎ (most_ids ≤ mem_given m)
 
 -- a `create` fails: its number is listed, or no id is left
 abbrev pub CreateFails : MemFiles → Type 0
-CreateFails m = NextFails m ⊎ (4294967295 ≤ mem_given m)
+CreateFails m = NextFails m ⊎ (most_ids ≤ mem_given m)

@@ -2,6 +2,7 @@
 use Rattle.std.specs.Prelude.{◌≡◌, ◌≢◌, ◌↔◌, ℕ, ◌+◌, ◌<◌, ◌≤◌, All, Bool, true, false, List, [], ◌∷◌, ◌++◌, take, drop, unwrap_or, Some, None, Ok, Err, OnOk, OnErr, IfOk, IsErr}
 use Rattle.std.specs.Prelude.{Result}
 use Rattle.std.specs.Prelude.{Option}
+use Rattle.soda_io.specs.Limits.{most_ids}
 use Rattle.soda_io.specs.declared.error.IoErr.{IoErr}
 use Rattle.soda_io.specs.declared.error.IoErr.TheVariants.{Failed, Memory}
 use Rattle.soda_io.specs.declared.call.FileCall.{FileCall}
@@ -87,7 +88,8 @@ pub record Creates (given : ℕ) (old new : Store) (name : List ℕ) (result : R
   pub fresh : IfOk result (λ id. IsFresh new id name false)
 
 -- what `read` does: at `Ok n` the next n bytes stand at the front of the buffer, which is `buf` after the call
-pub record Reads (given : ℕ) (old new : Store) (id : ℕ) (asked : ℕ) (buf : List ℕ) (result : Result ℕ IoErr) : Type 0 where
+pub record Reads (given : ℕ) (old new : Store) (id asked : ℕ) (buf : List ℕ) (result : Result ℕ IoErr)
+    : Type 0 where
   pub ids : KeepsIds given old new
   pub bytes : KeepsBytes old new
   pub others : (k : ℕ) → k < given → k ≢ id → new.place k ≡ old.place k
@@ -98,7 +100,8 @@ pub record Reads (given : ℕ) (old new : Store) (id : ℕ) (asked : ℕ) (buf :
   pub end : IfOk result (λ n. (n ≡ 0) ↔ (left old id ≡ []))
 
 -- what `write` does: at `Ok n` the first n of the bytes stand at the end of the id's name
-pub record Writes (given : ℕ) (old new : Store) (id : ℕ) (bytes : List ℕ) (length : ℕ) (result : Result ℕ IoErr) : Type 0 where
+pub record Writes (given : ℕ) (old new : Store) (id : ℕ) (bytes : List ℕ) (length : ℕ) (result : Result ℕ IoErr)
+    : Type 0 where
   pub ids : KeepsIds given old new
   pub places : KeepsPlaces given old new
   pub calls : new.calls ≡ old.calls ++ logged (Write id length) result
@@ -106,9 +109,9 @@ pub record Writes (given : ℕ) (old new : Store) (id : ℕ) (bytes : List ℕ) 
   pub appended : IfOk result (λ n. Puts (old.name id) (content old id ++ take n bytes) old.bytes new.bytes)
 
 -- the id that a call of `open` or `create` gives: the number of those given before, which Ok alone raises;
--- at most 4,294,967,295 ids are given
+-- no more ids than the limit are given
 abbrev pub Gives : ℕ → ℕ → Result ℕ IoErr → Type 0
-Gives before now (Ok id) = (id ≡ before) × (now ≡ before + 1) × (now < 4294967296)
+Gives before now (Ok id) = (id ≡ before) × (now ≡ before + 1) × (now ≤ most_ids)
 Gives before now (Err e) = now ≡ before
 
 -- a store that tells nothing

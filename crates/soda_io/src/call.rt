@@ -1,12 +1,10 @@
 // A name, and an entry of the journal of calls.
-ghost use Rattle.std.specs.Prelude.{◌≡◌, nat_eq};
-ghost use Rattle.std.specs.Cmp.{partial_equiv_from_equiv};
-ghost use Rattle.std.specs.Cmp.Lexicographic.{pointwise, nat_list_eq_equiv};
+ghost use Rattle.std.specs.Prelude.{◌≡◌};
 
 use std::marker::Model;
 
 /// A list of bytes.
-#[derive(Debug, Drop)]
+#[derive(Drop)]
 pub struct Name {
     text: Vec<u8>,
 }
@@ -35,22 +33,10 @@ impl Name {
     }
 }
 
-impl PartialEq for Name {
-    ghost eq = { pointwise nat_eq };
-
-    ghost laws = { partial_equiv_from_equiv nat_list_eq_equiv };
-
-    fn eq(&self, other: &Name) -> bool {
-        self.text.as_slice() == other.text.as_slice()
-    }
-}
-
-impl Eq for Name {
-    ghost laws = { nat_list_eq_equiv };
-}
-
-/// An entry of the journal: a call that answered `Ok` or `Failed`. The last field is None exactly where it answered `Failed`.
-#[derive(Debug, Drop, PartialEq, Eq)]
+/// An entry of the journal: a call that answered `Ok` or `Failed`.
+///
+/// The last field is None exactly where it answered `Failed`.
+#[derive(Drop)]
 pub enum FileCall {
     /// A call of `open`.
     Open {
@@ -84,30 +70,4 @@ pub enum FileCall {
         /// How many of them were taken: at least one.
         taken: Option<u64>,
     },
-}
-
-impl FileCall {
-    pub(crate) fn open(name: Name, id: Option<u32>) -> FileCall
-        ensures { result ≡ FileCall.Open name id }
-    {
-        FileCall::Open { name, id }
-    }
-
-    pub(crate) fn create(name: Name, id: Option<u32>) -> FileCall
-        ensures { result ≡ FileCall.Create name id }
-    {
-        FileCall::Create { name, id }
-    }
-
-    pub(crate) fn read(id: u32, asked: u64, got: Option<u64>) -> FileCall
-        ensures { result ≡ FileCall.Read id asked got }
-    {
-        FileCall::Read { id, asked, got }
-    }
-
-    pub(crate) fn write(id: u32, given: u64, taken: Option<u64>) -> FileCall
-        ensures { result ≡ FileCall.Write id given taken }
-    {
-        FileCall::Write { id, given, taken }
-    }
 }

@@ -10,8 +10,3 @@ pub enum IoErr {
     #[error("out of memory")]
     Memory,
 }
-
-/// Memory was refused: the error of a call that has no other.
-#[derive(Clone, Copy, Debug, PartialEq, Eq, Error)]
-#[error("out of memory")]
-pub struct NoMemory;

@@ -45,7 +45,8 @@ pub trait Files {
         requires room { 0 < length buf.old }
         ensures count { IfOk result (λ n. n ≤ length buf.new) }
         ensures ids { given self.new ≡ given self.old }
-        ensures store { tells → Reads (given self.old) (store self.old) (store self.new) id (length buf.old) buf.new result }
+        ensures store { tells →
+            Reads (given self.old) (store self.old) (store self.new) id (length buf.old) buf.new result }
         ensures cause { HasCause (faults self.old) (faults self.new) result };
 
     /// Appends a front of the bytes and says how many: at least one.
@@ -57,7 +58,8 @@ pub trait Files {
         requires some { 0 < length bytes.now }
         ensures count { IfOk result (λ n. (0 < n) × (n ≤ length bytes.now)) }
         ensures ids { given self.new ≡ given self.old }
-        ensures store { tells → Writes (given self.old) (store self.old) (store self.new) id bytes.now (length bytes.now) result }
+        ensures store { tells →
+            Writes (given self.old) (store self.old) (store self.new) id bytes.now (length bytes.now) result }
         ensures cause { HasCause (faults self.old) (faults self.new) result };
 
     /// The journal names no id that wasn't given.

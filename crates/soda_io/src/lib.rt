@@ -6,6 +6,7 @@ mod error;
 mod fault;
 mod files;
 mod held;
+mod limits;
 mod mem_files;
 mod mem_id;
 mod mem_sink;
@@ -14,13 +15,12 @@ mod role;
 mod sink;
 
 pub use call::{FileCall, Name};
-pub use error::{IoErr, NoMemory};
+pub use error::IoErr;
 pub use files::Files;
 pub use mem_files::MemFiles;
 pub use mem_sink::MemSink;
 pub use real::{RealFiles, StdSink};
 pub use role::FileRole;
 pub use sink::Sink;
-
-#[cfg(test)]
-mod tests;
+/// Want of memory.
+pub use std::alloc::AllocError as NoMemory;

@@ -1,10 +1,11 @@
 // Files in memory, with a journal of the calls.
 ghost use Rattle.std.specs.Prelude.{◌≡◌, ℕ, ◌<◌, ◌≤◌, ◌++◌, [], ◌∷◌, List, None, length, take, drop, ◌+◌, ◌^◌, min, string_bytes, vec_len, vec_capacity, OnOk, IfOk, OnErr, option_copied, Contains, IsErrOf, IsTrue, ◌↔◌, ⊤, true, false};
 ghost use Rattle.soda_io.specs.Cause.{raised, HasCause, IsCountOfFailed};
-ghost use Rattle.soda_io.specs.Ids.{AllHeld};
-ghost use Rattle.soda_io.specs.Store.{Puts, KeepsIds, KeepsBytes, KeepsPlaces, Opens, Creates, Reads, Writes, Gives, NamesGiven};
+ghost use Rattle.soda_io.specs.Machine.Given.{AllHeld};
+ghost use Rattle.soda_io.specs.Store.{Puts, KeepsIds, KeepsBytes, KeepsPlaces, Opens, Creates, Reads, Writes, Gives, NamesGiven, named};
 
 use crate::fault::raise;
+use crate::limits::MOST_IDS;
 use crate::mem_id::MemId;
 use crate::{FileCall, Files, IoErr, Name, NoMemory, held};
 use std::alloc::Global;
@@ -25,9 +26,6 @@ pub struct MemFiles {
     ghost known: { NamesGiven (length ids.items) calls.items },
     ghost counted: { faults < 2 ^ 64 },
 }
-
-// The most ids that are given.
-const MOST_IDS: usize = 4294967295;
 
 // Puts the front of what `place` leaves into the buffer.
 fn copy_from(bytes: &[u8], place: usize, buf: &mut [u8]) -> usize
@@ -74,6 +72,18 @@ fn is_listed(fails: &[u64], number: usize) -> bool
     fails.contains(&(number as u64))
 }
 
+// Adds an id, for which there is room.
+fn add_id(ids: &mut Vec<MemId>, fresh: MemId)
+    requires { vec_len ids.old < vec_capacity ids.old }
+    ensures { ids.new.items ≡ ids.old.items ++ fresh ∷ [] }
+{
+    match ids.push(fresh) {
+        Ok(()) => {}
+        Err(_) => unreachable!(),
+    }
+}
+
+// Adds an entry, for which there is room.
 fn log(calls: &mut Vec<FileCall>, entry: FileCall)
     requires { vec_len calls.old < vec_capacity calls.old }
     ensures { calls.new.items ≡ calls.old.items ++ entry ∷ [] }
@@ -82,16 +92,6 @@ fn log(calls: &mut Vec<FileCall>, entry: FileCall)
         Ok(()) => {}
         Err(_) => unreachable!(),
     }
-}
-
-// Adds the entry of a call that fails, and counts the fault.
-fn fail(calls: &mut Vec<FileCall>, faults: &mut u64, entry: FileCall)
-    requires { vec_len calls.old < vec_capacity calls.old }
-    ensures calls { calls.new.items ≡ calls.old.items ++ entry ∷ [] }
-    ensures faults { faults.new ≡ raised faults.old }
-{
-    raise(faults);
-    log(calls, entry);
 }
 
 impl MemFiles {
@@ -105,9 +105,7 @@ impl MemFiles {
         ensures fails { IfOk result (λ m. mem_fails m ≡ fails.now) }
         ensures faults { IfOk result (λ m. mem_faults m ≡ 0) }
     {
-        let Ok(fails) = fails.to_vec(alloc) else {
-            return Err(NoMemory);
-        };
+        let fails = fails.to_vec(alloc)?;
         Ok(MemFiles {
             alloc,
             files: BTreeMap::new(alloc),
@@ -129,9 +127,7 @@ impl MemFiles {
         ensures fails { mem_fails self.new ≡ mem_fails self.old }
         ensures faults { mem_faults self.new ≡ mem_faults self.old }
     {
-        let Ok(copy) = bytes.to_vec(self.alloc) else {
-            return Err(NoMemory);
-        };
+        let copy = bytes.to_vec(self.alloc)?;
         held::put(self.alloc, &mut self.files, name, copy)
     }
 
@@ -147,6 +143,38 @@ impl MemFiles {
         ensures { result.now ≡ (mem_store self.now).calls }
     {
         &self.calls
+    }
+}
+
+impl MemFiles {
+    // Makes room for one more id and one more entry. Nothing else changes.
+    fn make_room(&mut self) -> Result<(), NoMemory>
+        ensures ids { self.new.ids.items ≡ self.old.ids.items }
+        ensures calls { self.new.calls.items ≡ self.old.calls.items }
+        ensures files { self.new.files ≡ self.old.files }
+        ensures fails { self.new.fails ≡ self.old.fails }
+        ensures faults { self.new.faults ≡ self.old.faults }
+        ensures more_ids { OnOk result (vec_len self.new.ids < vec_capacity self.new.ids) }
+        ensures more_calls { OnOk result (vec_len self.new.calls < vec_capacity self.new.calls) }
+    {
+        if self.ids.reserve(1).is_err() {
+            return Err(NoMemory);
+        }
+        self.calls.reserve(1)
+    }
+
+    // Adds the entry of a call that fails, and counts the fault. There is room for the entry.
+    fn refuse(&mut self, entry: FileCall)
+        requires more_calls { vec_len self.old.calls < vec_capacity self.old.calls }
+        requires given { named entry ≤ length self.old.ids.items }
+        ensures ids { self.new.ids ≡ self.old.ids }
+        ensures calls { self.new.calls.items ≡ self.old.calls.items ++ entry ∷ [] }
+        ensures files { self.new.files ≡ self.old.files }
+        ensures fails { self.new.fails ≡ self.old.fails }
+        ensures faults { self.new.faults ≡ raised self.old.faults }
+    {
+        raise(&mut self.faults);
+        log(&mut self.calls, entry);
     }
 }
 
@@ -173,16 +201,10 @@ impl Files for MemFiles {
         ensures faults { IsCountOfFailed (mem_faults self.old) (mem_faults self.new) result }
         ensures fails { mem_fails self.new ≡ mem_fails self.old }
     {
+        if self.make_room().is_err() {
+            return Err(IoErr::Memory);
+        }
         let Ok(entry) = name_of(self.alloc, name) else {
-            return Err(IoErr::Memory);
-        };
-        let Ok(fresh) = id_of(self.alloc, name, true) else {
-            return Err(IoErr::Memory);
-        };
-        let Ok(()) = self.calls.reserve(1) else {
-            return Err(IoErr::Memory);
-        };
-        let Ok(()) = self.ids.reserve(1) else {
             return Err(IoErr::Memory);
         };
         let id = self.ids.len();
@@ -190,19 +212,26 @@ impl Files for MemFiles {
             || is_listed(&self.fails, self.calls.len())
             || !held::is_held(&self.files, name)
         {
-            fail(
-                &mut self.calls,
-                &mut self.faults,
-                FileCall::open(entry, None),
-            );
+            self.refuse(FileCall::Open {
+                name: entry,
+                id: None,
+            });
             return Err(IoErr::Failed);
         }
-        match self.ids.push(fresh) {
-            Ok(()) => {}
-            Err(_) => unreachable!(),
-        }
-        log(&mut self.calls, FileCall::open(entry, Some(id as u32)));
-        Ok(id as u32)
+        let Ok(fresh) = id_of(self.alloc, name, true) else {
+            drop(entry);
+            return Err(IoErr::Memory);
+        };
+        add_id(&mut self.ids, fresh);
+        let id = id as u32;
+        log(
+            &mut self.calls,
+            FileCall::Open {
+                name: entry,
+                id: Some(id),
+            },
+        );
+        Ok(id)
     }
 
     /// Creates a name, or fails exactly where its number is listed or no id is left.
@@ -217,37 +246,40 @@ impl Files for MemFiles {
         ensures faults { IsCountOfFailed (mem_faults self.old) (mem_faults self.new) result }
         ensures fails { mem_fails self.new ≡ mem_fails self.old }
     {
+        if self.make_room().is_err() {
+            return Err(IoErr::Memory);
+        }
         let Ok(entry) = name_of(self.alloc, name) else {
-            return Err(IoErr::Memory);
-        };
-        let Ok(fresh) = id_of(self.alloc, name, false) else {
-            return Err(IoErr::Memory);
-        };
-        let Ok(()) = self.calls.reserve(1) else {
-            return Err(IoErr::Memory);
-        };
-        let Ok(()) = self.ids.reserve(1) else {
             return Err(IoErr::Memory);
         };
         let id = self.ids.len();
         if id >= MOST_IDS || is_listed(&self.fails, self.calls.len()) {
-            fail(
-                &mut self.calls,
-                &mut self.faults,
-                FileCall::create(entry, None),
-            );
+            self.refuse(FileCall::Create {
+                name: entry,
+                id: None,
+            });
             return Err(IoErr::Failed);
         }
-        let empty = Vec::new(self.alloc);
-        let Ok(()) = held::put(self.alloc, &mut self.files, name, empty) else {
+        let Ok(fresh) = id_of(self.alloc, name, false) else {
+            drop(entry);
             return Err(IoErr::Memory);
         };
-        match self.ids.push(fresh) {
-            Ok(()) => {}
-            Err(_) => unreachable!(),
-        }
-        log(&mut self.calls, FileCall::create(entry, Some(id as u32)));
-        Ok(id as u32)
+        let empty = Vec::new(self.alloc);
+        let Ok(()) = held::put(self.alloc, &mut self.files, name, empty) else {
+            drop(entry);
+            drop(fresh);
+            return Err(IoErr::Memory);
+        };
+        add_id(&mut self.ids, fresh);
+        let id = id as u32;
+        log(
+            &mut self.calls,
+            FileCall::Create {
+                name: entry,
+                id: Some(id),
+            },
+        );
+        Ok(id)
     }
 
     /// Reads the next bytes, or fails exactly where its number is listed.
@@ -257,7 +289,8 @@ impl Files for MemFiles {
         requires room { 0 < length buf.old }
         ensures count { IfOk result (λ n. n ≤ length buf.new) }
         ensures ids { mem_given self.new ≡ mem_given self.old }
-        ensures store { ⊤ → Reads (mem_given self.old) (mem_store self.old) (mem_store self.new) id (length buf.old) buf.new result }
+        ensures store { ⊤ →
+            Reads (mem_given self.old) (mem_store self.old) (mem_store self.new) id (length buf.old) buf.new result }
         ensures cause { HasCause (mem_faults self.old) (mem_faults self.new) result }
 
         // It fails exactly where its number is listed, or the reason stands here.
@@ -266,28 +299,26 @@ impl Files for MemFiles {
         ensures faults { IsCountOfFailed (mem_faults self.old) (mem_faults self.new) result }
         ensures fails { mem_fails self.new ≡ mem_fails self.old }
     {
-        let Ok(()) = self.calls.reserve(1) else {
+        if self.make_room().is_err() {
             return Err(IoErr::Memory);
-        };
+        }
         let asked = buf.len() as u64;
         if is_listed(&self.fails, self.calls.len()) {
-            fail(
-                &mut self.calls,
-                &mut self.faults,
-                FileCall::read(id, asked, None),
-            );
+            self.refuse(FileCall::Read {
+                id,
+                asked,
+                got: None,
+            });
             return Err(IoErr::Failed);
         }
-        let Some(bytes) = held::find(&self.files, self.ids[id as usize].name.as_str()) else {
+        let own = &self.ids[id as usize];
+        let Some(bytes) = held::find(&self.files, own.name.as_str()) else {
             unreachable!()
         };
-        let count = copy_from(bytes, self.ids[id as usize].place, buf);
-        let own = &mut self.ids[id as usize];
-        own.place += count;
-        log(
-            &mut self.calls,
-            FileCall::read(id, asked, Some(count as u64)),
-        );
+        let count = copy_from(bytes, own.place, buf);
+        self.ids[id as usize].place += count;
+        let got = Some(count as u64);
+        log(&mut self.calls, FileCall::Read { id, asked, got });
         Ok(count)
     }
 
@@ -298,7 +329,9 @@ impl Files for MemFiles {
         requires some { 0 < length bytes.now }
         ensures count { IfOk result (λ n. (0 < n) × (n ≤ length bytes.now)) }
         ensures ids { mem_given self.new ≡ mem_given self.old }
-        ensures store { ⊤ → Writes (mem_given self.old) (mem_store self.old) (mem_store self.new) id bytes.now (length bytes.now) result }
+        ensures store { ⊤ →
+            Writes (mem_given self.old) (mem_store self.old) (mem_store self.new) id bytes.now (length bytes.now)
+            result }
         ensures cause { HasCause (mem_faults self.old) (mem_faults self.new) result }
 
         // It fails exactly where its number is listed, or the reason stands here.
@@ -308,23 +341,24 @@ impl Files for MemFiles {
         ensures faults { IsCountOfFailed (mem_faults self.old) (mem_faults self.new) result }
         ensures fails { mem_fails self.new ≡ mem_fails self.old }
     {
-        let Ok(()) = self.calls.reserve(1) else {
+        if self.make_room().is_err() {
             return Err(IoErr::Memory);
-        };
+        }
         let given = bytes.len() as u64;
         if is_listed(&self.fails, self.calls.len()) {
-            fail(
-                &mut self.calls,
-                &mut self.faults,
-                FileCall::write(id, given, None),
-            );
+            self.refuse(FileCall::Write {
+                id,
+                given,
+                taken: None,
+            });
             return Err(IoErr::Failed);
         }
         let name = self.ids[id as usize].name.as_str();
         let Ok(()) = held::append(&mut self.files, name, bytes) else {
             return Err(IoErr::Memory);
         };
-        log(&mut self.calls, FileCall::write(id, given, Some(given)));
+        let taken = Some(given);
+        log(&mut self.calls, FileCall::Write { id, given, taken });
         Ok(bytes.len())
     }
 

@@ -28,9 +28,7 @@ impl MemSink {
         ensures calls { IfOk result (λ s. sink_calls s ≡ 0) }
         ensures faults { IfOk result (λ s. sink_faults s ≡ 0) }
     {
-        let Ok(fails) = fails.to_vec(alloc) else {
-            return Err(NoMemory);
-        };
+        let fails = fails.to_vec(alloc)?;
         Ok(MemSink {
             taken: Vec::new(alloc),
             fails,

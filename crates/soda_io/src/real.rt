@@ -1,17 +1,21 @@
-// The real files and streams. They tell no content, and keep a count of what failed.
-ghost use Rattle.std.specs.Prelude.{◌≡◌, ◌<◌, ◌≤◌, ◌+◌, ◌^◌, [], length, vec_len, vec_capacity, IfOk, OnOk, true, false};
-ghost use Rattle.soda_io.specs.Bytes.{Takes};
+// The real files and streams. They keep a count of what failed.
+ghost use Rattle.std.specs.Prelude.{◌≡◌, ◌<◌, ◌≤◌, ◌+◌, ◌^◌, [], length, vec_len, vec_capacity, unwrap_or, IfOk, OnOk};
+ghost use Rattle.soda_io.specs.Bytes.{Takes, Tells};
 ghost use Rattle.soda_io.specs.Cause.{HasCause, IsCountOfErrors};
+ghost use Rattle.soda_io.specs.Limits.{most_ids};
 ghost use Rattle.soda_io.specs.Store.{nothing, Gives, Opens, Creates, Reads, Writes};
 
 use crate::fault::raise;
+use crate::limits::MOST_IDS;
 use crate::{Files, IoErr, NoMemory, Sink};
 use std::alloc::Global;
 use std::io::{Read, Write};
 use std::rt::Runtime;
 use std::{fs, io, rt};
 
-/// A real stream as a sink. It tells nothing of what it took.
+/// A real stream as a sink. It tells what it took exactly where its writer tells what it holds, as a vector does.
+///
+/// Standard output, standard error and a file tell nothing.
 pub struct StdSink<W: Write + Drop> {
     writer: W,
     faults: u64,
@@ -30,16 +34,17 @@ impl<W: Write + Drop> Drop for StdSink<W> {
 impl<W: Write + Drop> StdSink<W> {
     /// The sink that hands its bytes to this writer, with a count of 0.
     pub fn new(writer: W) -> StdSink<W>
-        ensures { result.faults ≡ 0 }
+        ensures faults { result.faults ≡ 0 }
+        ensures writer { result.writer ≡ writer }
     {
         StdSink { writer, faults: 0 }
     }
 }
 
 impl<W: Write + Drop> Sink for StdSink<W> {
-    ghost tells = { ⊥ };
+    ghost tells = { Tells W.contents };
 
-    ghost taken = { λ s. [] };
+    ghost taken = { λ s. unwrap_or (W.contents s.writer) [] };
 
     ghost faults = { λ s. s.faults };
 
@@ -47,12 +52,14 @@ impl<W: Write + Drop> Sink for StdSink<W> {
     fn write(&mut self, bytes: &[u8]) -> Result<usize, IoErr>
         requires { 0 < length bytes.now }
         ensures count { IfOk result (λ n. (0 < n) × (n ≤ length bytes.now)) }
-        ensures taken { ⊥ → Takes [] [] bytes.now result }
+        ensures taken { Tells W.contents →
+            Takes (unwrap_or (W.contents self.old.writer) []) (unwrap_or (W.contents self.new.writer) []) bytes.now
+            result }
         ensures cause { HasCause self.old.faults self.new.faults result }
         ensures faults { IsCountOfErrors self.old.faults self.new.faults result }
     {
-        match self.writer.write(bytes) {
-            Ok(taken) if taken > 0 => Ok(taken),
+        match self.writer.write(bytes).ok() {
+            Some(taken) if taken > 0 => Ok(taken),
             _ => {
                 raise(&mut self.faults);
                 Err(IoErr::Failed)
@@ -84,6 +91,44 @@ impl<'a, R: Runtime> RealFiles<'a, R> {
             faults: 0,
         })
     }
+
+    // Makes room for one more file, or raises the count.
+    fn make_room(&mut self) -> Result<(), IoErr>
+        ensures given { vec_len self.new.files ≡ vec_len self.old.files }
+        ensures few { OnOk result (vec_len self.new.files < most_ids) }
+        ensures more { OnOk result (vec_len self.new.files < vec_capacity self.new.files) }
+        ensures cause { HasCause self.old.faults self.new.faults result }
+        ensures faults { IsCountOfErrors self.old.faults self.new.faults result }
+    {
+        if self.files.len() >= MOST_IDS {
+            raise(&mut self.faults);
+            return Err(IoErr::Failed);
+        }
+        if self.files.reserve(1).is_err() {
+            raise(&mut self.faults);
+            return Err(IoErr::Memory);
+        }
+        Ok(())
+    }
+
+    // Keeps a file that was made, for which there is room, or raises the count.
+    fn keep(&mut self, made: Option<R::File>) -> Result<u32, IoErr>
+        requires few { vec_len self.old.files < most_ids }
+        requires more { vec_len self.old.files < vec_capacity self.old.files }
+        ensures id { Gives (vec_len self.old.files) (vec_len self.new.files) result }
+        ensures cause { HasCause self.old.faults self.new.faults result }
+        ensures faults { IsCountOfErrors self.old.faults self.new.faults result }
+    {
+        let id = self.files.len() as u32;
+        let Some(file) = made else {
+            raise(&mut self.faults);
+            return Err(IoErr::Failed);
+        };
+        match self.files.push(file) {
+            Ok(()) => Ok(id),
+            Err(_) => unreachable!(),
+        }
+    }
 }
 
 impl<'a, R: Runtime> Files for RealFiles<'a, R> {
@@ -102,25 +147,9 @@ impl<'a, R: Runtime> Files for RealFiles<'a, R> {
         ensures cause { HasCause self.old.faults self.new.faults result }
         ensures faults { IsCountOfErrors self.old.faults self.new.faults result }
     {
-        let id = self.files.len();
-        if id >= u32::MAX as usize {
-            raise(&mut self.faults);
-            return Err(IoErr::Failed);
-        }
-        if self.files.reserve(1).is_err() {
-            raise(&mut self.faults);
-            return Err(IoErr::Memory);
-        }
-        match fs::open(self.rt, name) {
-            Ok(file) => match self.files.push(file) {
-                Ok(()) => Ok(id as u32),
-                Err(_) => unreachable!(),
-            },
-            Err(_) => {
-                raise(&mut self.faults);
-                Err(IoErr::Failed)
-            }
-        }
+        self.make_room()?;
+        let made = fs::open(self.rt, name).ok();
+        self.keep(made)
     }
 
     /// Creates once. Each error raises the count.
@@ -130,25 +159,9 @@ impl<'a, R: Runtime> Files for RealFiles<'a, R> {
         ensures cause { HasCause self.old.faults self.new.faults result }
         ensures faults { IsCountOfErrors self.old.faults self.new.faults result }
     {
-        let id = self.files.len();
-        if id >= u32::MAX as usize {
-            raise(&mut self.faults);
-            return Err(IoErr::Failed);
-        }
-        if self.files.reserve(1).is_err() {
-            raise(&mut self.faults);
-            return Err(IoErr::Memory);
-        }
-        match fs::create(self.rt, name) {
-            Ok(file) => match self.files.push(file) {
-                Ok(()) => Ok(id as u32),
-                Err(_) => unreachable!(),
-            },
-            Err(_) => {
-                raise(&mut self.faults);
-                Err(IoErr::Failed)
-            }
-        }
+        self.make_room()?;
+        let made = fs::create(self.rt, name).ok();
+        self.keep(made)
     }
 
     /// Reads once. Each error raises the count.
@@ -161,9 +174,9 @@ impl<'a, R: Runtime> Files for RealFiles<'a, R> {
         ensures cause { HasCause self.old.faults self.new.faults result }
         ensures faults { IsCountOfErrors self.old.faults self.new.faults result }
     {
-        match self.files[id as usize].read(buf) {
-            Ok(count) => Ok(count),
-            Err(_) => {
+        match self.files[id as usize].read(buf).ok() {
+            Some(count) => Ok(count),
+            None => {
                 raise(&mut self.faults);
                 Err(IoErr::Failed)
             }
@@ -180,8 +193,8 @@ impl<'a, R: Runtime> Files for RealFiles<'a, R> {
         ensures cause { HasCause self.old.faults self.new.faults result }
         ensures faults { IsCountOfErrors self.old.faults self.new.faults result }
     {
-        match self.files[id as usize].write(bytes) {
-            Ok(count) if count > 0 => Ok(count),
+        match self.files[id as usize].write(bytes).ok() {
+            Some(count) if count > 0 => Ok(count),
             _ => {
                 raise(&mut self.faults);
                 Err(IoErr::Failed)

@@ -11,7 +11,7 @@ use Rattle.soda_checks.specs.declared.outline.Site.TheVariants.{Size as SiteSize
 use Rattle.soda_ir.specs.Formula.{every}
 use Rattle.soda_ir.specs.Program.{PlainProgram}
 use Rattle.soda_ir.specs.Uses.{formula_is, is_good_cell}
-use Rattle.soda_parse.specs.Limits.{far_from}
+use Rattle.soda_parse.specs.ProgramConditions.{far_from}
 use Rattle.soda_parse.specs.Meaning.{input_of, tensors_in}
 use Rattle.soda_parse.proofs.Kept.{none_first, none_second}
 use Rattle.soda_parse.proofs.Tiling.{none_here}

@@ -13,7 +13,7 @@ use Rattle.soda_ir.specs.Counts.{can_be_placed, is_input_role, is_output_role}
 use Rattle.soda_ir.specs.Program.{PlainProgram, PlainTensor, input_types, preserves}
 use Rattle.soda_ir.specs.Uses.{each_use, formula_is, is_good_cell, is_good_place}
 use Rattle.soda_ir.specs.Valid.{FitsItself, fills_burst, has_formula_if_no_input, has_good_uses, has_inputs_first, output_types}
-use Rattle.soda_parse.specs.Limits.{bad_burst, circular_from, has_good_burst, iterate_mismatch, outputs_fit, preserve_mismatch}
+use Rattle.soda_parse.specs.ProgramConditions.{bad_burst, circular_from, has_good_burst, iterate_mismatch, outputs_fit, preserve_mismatch}
 use Rattle.soda_parse.specs.Meaning.{input_of, tensors_in}
 use Rattle.soda_parse.proofs.Cells.{AllFine}
 use Rattle.soda_parse.proofs.Places.{HasParams, good_uses}

@@ -15,7 +15,7 @@ use Rattle.soda_parse.specs.Meaning.{program_by}
 use Rattle.soda_parse.specs.Text.{Accepts, Refuses, too_long, no_ascii, no_syntax, not_valid, statement_refusal}
 use Rattle.soda_parse.specs.declared.refusal.Refusal.{Refusal}
 use Rattle.soda_parse.specs.declared.refusal.Refusal.TheVariants.{Syntax, NotAscii}
-use Rattle.soda_syntax.proofs.Laws.{statements_are_one}
+use Rattle.soda_syntax.proofs.CallerLemmas.{statements_are_one}
 use Rattle.soda_formula.specs.Statements.{PlainStatement}
 use Rattle.soda_syntax.specs.SyntaxError.{BeginsText, IsGoodStart, IsSyntax, IsSyntaxError, IsWrongAt, EndsTooEarly}
 use Rattle.soda_words.specs.Tokens.{not_ascii, tokens_of}

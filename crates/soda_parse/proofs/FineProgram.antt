@@ -14,7 +14,7 @@ use Rattle.soda_ir.specs.Counts.{can_be_placed}
 use Rattle.soda_ir.specs.Points.{size}
 use Rattle.soda_ir.specs.Program.{PlainParam, PlainProgram, PlainTensor, input_types, preserves}
 use Rattle.soda_ir.specs.Valid.{IsValid, is_good_param, output_types, value_count}
-use Rattle.soda_parse.specs.Limits.{are_same_types, bad_burst, circular_from, first_past, iterate_mismatch, offset_past, outputs_fit, param_products, partial_products, preserve_mismatch, unless_within, values_past}
+use Rattle.soda_parse.specs.ProgramConditions.{are_same_types, bad_burst, circular_from, first_past, iterate_mismatch, offset_past, outputs_fit, param_products, partial_products, preserve_mismatch, unless_within, values_past}
 use Rattle.soda_parse.specs.Meaning.{tile_items}
 use Rattle.soda_parse.specs.Text.{count_refusal, late_refusal, names_refusal, refusal_by, shape_refusal, size_refusal, statement_refusal, use_refusal}
 use Rattle.soda_print.specs.Sized.{IsSizedProgram}

@@ -14,7 +14,7 @@ use Rattle.soda_ir.specs.Points.{size}
 use Rattle.soda_ir.specs.Program.{PlainParam, PlainProgram, PlainTensor}
 use Rattle.soda_ir.specs.Uses.{each_use, is_good_cell, is_good_place, is_near}
 use Rattle.soda_ir.specs.Valid.{has_good_uses, is_good_param}
-use Rattle.soda_parse.specs.Limits.{far_from, first_past, site_magnitudes}
+use Rattle.soda_parse.specs.ProgramConditions.{far_from, first_past, site_magnitudes}
 use Rattle.soda_print.specs.Canonical.{indexes, tensor_name, type_text}
 use Rattle.soda_print.specs.Sized.{AreSizedParams, AreSizedTensors, IsSized}
 use Rattle.soda_formula.specs.declared.statement.Size.{Size}

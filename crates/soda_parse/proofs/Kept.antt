@@ -5,7 +5,7 @@ use Rattle.soda_checks.specs.Conditions.{bad_width, float_type, missing, name_tw
 use Rattle.soda_checks.specs.declared.outline.Outline.{Outline}
 use Rattle.soda_ir.specs.Counts.{live_count, read_count}
 use Rattle.soda_ir.specs.Program.{PlainProgram}
-use Rattle.soda_parse.specs.Limits.{bad_burst, circular, iterate_mismatch, offset_past, params_past, preserve_mismatch, tile_past, unless_within}
+use Rattle.soda_parse.specs.ProgramConditions.{bad_burst, circular, iterate_mismatch, offset_past, params_past, preserve_mismatch, tile_past, unless_within}
 use Rattle.soda_parse.specs.Meaning.{tile_items}
 use Rattle.soda_parse.specs.Text.{count_refusal, late_refusal, names_refusal, refusal_by, refusal_if, shape_refusal, size_refusal, use_refusal}
 use Rattle.soda_parse.specs.declared.refusal.Refusal.{Refusal}

@@ -1,5 +1,5 @@
 -- One level of a written formula, and of the formula that it stands for.
-use Rattle.soda_formula.proofs.Tree.{levels as written_levels}
+use Rattle.soda_formula.proofs.CallerLemmas.{levels as written_levels}
 use Rattle.soda_ir.proofs.CallerLemmas.{levels as formula_levels}
 
 pub ruleset levels = (written_levels, formula_levels)

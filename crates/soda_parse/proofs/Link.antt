@@ -27,7 +27,7 @@ use Rattle.soda_parse.proofs.Texts.{param_texts, tensor_texts}
 use Rattle.soda_parse.proofs.Ends.{inputs_stand_first, all_formulas, an_input, an_output, has_burst, fits_itself, defined_placed}
 use Rattle.soda_parse.proofs.Kept.{keeps_names, keeps_shape, keeps_sizes, keeps_rest, none_first, none_second}
 use Rattle.soda_parse.specs.Meaning.{fixed_in, input_of, program_by, tensors_in, tile_items}
-use Rattle.soda_parse.specs.Limits.{circular}
+use Rattle.soda_parse.specs.ProgramConditions.{circular}
 use Rattle.soda_parse.specs.Text.{count_refusal, late_refusal, names_refusal, refusal_by, shape_refusal, size_refusal, statement_refusal, use_refusal}
 use Rattle.soda_parse.specs.declared.refusal.Refusal.{Refusal}
 use Rattle.soda_formula.specs.Statements.{PlainStatement}

@@ -7,7 +7,7 @@ use Rattle.std.proofs.lemmas.Bool.Decides.{nat_tests}
 use Rattle.std.specs.Prelude.{◌-ℤ◌, slice_index_or, nat_le, nat_lt, map, unsigned_abs}
 use Rattle.std.specs.List.{list_all}
 use Rattle.soda_ir.specs.Uses.{is_near}
-use Rattle.soda_parse.specs.Limits.{first_past}
+use Rattle.soda_parse.specs.ProgramConditions.{first_past}
 use Rattle.soda_parse.specs.Meaning.{is_offset, offset_or_none, shifted}
 
 -- the components before this one are made, all of them near

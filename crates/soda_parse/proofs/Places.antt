@@ -19,7 +19,7 @@ use Rattle.soda_ir.specs.Points.{size}
 use Rattle.soda_ir.specs.Program.{PlainParam, PlainProgram}
 use Rattle.soda_ir.specs.Uses.{each_use, is_good_cell, is_good_place}
 use Rattle.soda_ir.specs.Valid.{value_count}
-use Rattle.soda_parse.specs.Limits.{first_past, param_products, partial_products, values_past}
+use Rattle.soda_parse.specs.ProgramConditions.{first_past, param_products, partial_products, values_past}
 use Rattle.soda_parse.specs.Meaning.{cell_formula, formula_of, named_value, offset_or_none, param_of, place_at, place_of, place_or_0, shifted, tensor_number, value_formula}
 use Rattle.soda_parse.proofs.Kept.{none_first, none_second}
 use Rattle.soda_parse.proofs.SameTypes.{both_of}

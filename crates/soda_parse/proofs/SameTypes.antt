@@ -2,7 +2,7 @@
 use Rattle.std.proofs.Common.{◌≡◌, ◌↔◌, Bool, true, false, not, ◌&&◌, List, [], ◌∷◌, IsTrue, refl, sym, ap, ◌∙◌, cond, ℕ, ◌==◌}
 use Rattle.std.proofs.lemmas.Bool.{eq-eqb, eqb-true}
 use Rattle.soda_words.specs.IntType.{IntType}
-use Rattle.soda_parse.specs.Limits.{are_same_types, is_same_type}
+use Rattle.soda_parse.specs.ProgramConditions.{are_same_types, is_same_type}
 
 same_signs : (a : Bool) → cond a a (not a) ≡ true
 same_signs true = refl

@@ -11,7 +11,7 @@ use Rattle.soda_checks.specs.declared.outline.Outline.{Outline}
 use Rattle.soda_ir.specs.Points.{size}
 use Rattle.soda_ir.specs.Program.{PlainParam}
 use Rattle.soda_ir.specs.Valid.{value_count}
-use Rattle.soda_parse.specs.Limits.{first_past, param_products, partial_products, unless_within, values_past}
+use Rattle.soda_parse.specs.ProgramConditions.{first_past, param_products, partial_products, unless_within, values_past}
 use Rattle.soda_parse.proofs.Kept.{none_first, none_second}
 use Rattle.soda_parse.proofs.SameTypes.{both_of}
 use Rattle.soda_parse.proofs.Tiling.{none_here}

@@ -16,7 +16,7 @@ use Rattle.soda_ir.specs.Formula.{every}
 use Rattle.soda_ir.specs.Formula.{Formula}
 use Rattle.soda_ir.specs.Program.{PlainProgram}
 use Rattle.soda_ir.specs.Uses.{each_use, is_good_cell, is_good_place, is_near}
-use Rattle.soda_parse.specs.Limits.{far_from, first_past, left_behind, site_magnitudes}
+use Rattle.soda_parse.specs.ProgramConditions.{far_from, first_past, left_behind, site_magnitudes}
 use Rattle.soda_parse.specs.Meaning.{cell_formula, formula_of, is_offset, offset_or_none, shifted, tensor_number, value_formula}
 use Rattle.soda_formula.specs.declared.statement.ParamLine.{ParamLine}
 use Rattle.soda_parse.proofs.Kept.{none_first, none_second}

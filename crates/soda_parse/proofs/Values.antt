@@ -2,7 +2,7 @@
 use Rattle.std.proofs.Common.{◌≡◌, ℕ, suc, ◌+◌, ◌*◌, ◌<◌, ◌≤◌, List, [], ◌∷◌, length, map, drop, get_or, Some, None, refl, sym, ap, ◌∙◌, arith, mul-one}
 use Rattle.std.proofs.Math.ListN.{drop_of_length-le}
 use Rattle.soda_ir.specs.Points.{size}
-use Rattle.soda_parse.specs.Limits.{first_past, param_products, partial_products}
+use Rattle.soda_parse.specs.ProgramConditions.{first_past, param_products, partial_products}
 
 -- the product of the first sizes is taken, and no sum was too great so far
 pub record IsMultiplied (before product index : ℕ) (sizes : List ℕ) : Type 0 where

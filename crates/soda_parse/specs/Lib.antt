@@ -1,4 +1,4 @@
 pub mod Meaning
-pub mod Limits
+pub mod ProgramConditions
 pub mod Text
 pub mod Fails

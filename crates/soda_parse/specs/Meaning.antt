@@ -20,6 +20,7 @@ use Rattle.soda_formula.specs.declared.statement.Extent.TheVariants.{Fixed, Open
 use Rattle.soda_formula.specs.declared.statement.InputLine.{InputLine}
 use Rattle.soda_formula.specs.declared.statement.ParamLine.{ParamLine}
 use Rattle.soda_formula.specs.declared.statement.Size.{Size}
+use Rattle.soda_words.specs.Limits.{most_dims, most_values}
 use Rattle.soda_words.specs.Tokens.{or_else}
 use Rattle.soda_words.specs.declared.token.Word.{Word}
 
@@ -30,7 +31,8 @@ int_type w = unwrap_or (type_of w.text) int32
 -- the number of a tensor: inputs first, then locals and outputs, each in text order
 abbrev pub tensor_number : Outline → Word → Option ℕ
 tensor_number o w =
-    or_else (position (λ i. is_same w i.name) o.inputs) (option_map (λ k. length o.inputs + k) (position (λ d. is_same w d.name) o.defined))
+    or_else (position (λ i. is_same w i.name) o.inputs)
+    (option_map (λ k. length o.inputs + k) (position (λ d. is_same w d.name) o.defined))
 
 -- an offset with the left side subtracted
 abbrev pub shifted : List ℤ → List ℤ → List ℤ
@@ -38,9 +40,9 @@ shifted [] left = []
 shifted (d ∷ ds) [] = d ∷ shifted ds []
 shifted (d ∷ ds) (l ∷ ls) = (d -ℤ l) ∷ shifted ds ls
 
--- at most four components, each at most 32,768 in magnitude
+-- at most as many components as there are dimensions, each within the limit on offsets
 abbrev pub is_offset : List ℤ → Bool
-is_offset ds = nat_le (length ds) 4 && is_near ds
+is_offset ds = nat_le (length ds) most_dims && is_near ds
 
 -- an offset that may be; none where it may not, which no accepted text has
 abbrev pub offset_or_none : List ℤ → List ℤ
@@ -57,7 +59,7 @@ place_at (s ∷ t ∷ ss) (i ∷ j ∷ is) = i * t.value + j
 
 -- a place that may be; 0 where it may not, which no accepted text has
 abbrev pub place_or_0 : ℕ → ℕ
-place_or_0 n = if nat_lt n 65536 then n else 0
+place_or_0 n = if nat_lt n most_values then n else 0
 
 -- the place of a param's value
 abbrev pub place_of : List Size → List ℕ → ℕ

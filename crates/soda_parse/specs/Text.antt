@@ -7,12 +7,13 @@ use Rattle.soda_ir.specs.Counts.{live_count, read_count}
 use Rattle.soda_ir.specs.Program.{PlainProgram}
 use Rattle.soda_ir.specs.declared.limit.LimitKind.{LimitKind}
 use Rattle.soda_ir.specs.declared.limit.LimitKind.TheVariants.{Unroll, Iterate, Dims, Tile as TileKind, Offset, Tensors, Params, Live, Reads}
-use Rattle.soda_parse.specs.Limits.{unless_within, circular, iterate_mismatch, preserve_mismatch, tile_past, offset_past, params_past, bad_burst}
+use Rattle.soda_parse.specs.ProgramConditions.{unless_within, circular, iterate_mismatch, preserve_mismatch, tile_past, offset_past, params_past, bad_burst}
 use Rattle.soda_parse.specs.Meaning.{program_by, tile_items}
 use Rattle.soda_parse.specs.declared.refusal.Refusal.{Refusal}
 use Rattle.soda_parse.specs.declared.refusal.Refusal.TheVariants.{TextTooLong, NotAscii, Syntax, Missing, Twice, FloatType, BadWidth, NameTwice, UnknownName, WrongDims, Circular, IterateMismatch, PreserveMismatch, Tile, Limit, BurstWidth, ParamUse}
 use Rattle.soda_formula.specs.Statements.{PlainStatement}
 use Rattle.soda_syntax.specs.SyntaxError.{IsSyntax, IsSyntaxError}
+use Rattle.soda_words.specs.Limits.{most_unroll, most_iterate, most_dims, most_tensors, most_live, most_reads}
 use Rattle.soda_words.specs.Tokens.{not_ascii, or_else, tokens_of}
 
 -- a refusal, where something holds
@@ -56,20 +57,20 @@ shape_refusal o p = shape_by (circular o p) (iterate_mismatch p) (preserve_misma
 -- the first limit on sizes that is passed, if one is
 unfoldable pub size_refusal : Outline → PlainProgram → Option Refusal
 size_refusal o p =
-    first_of (limit Unroll (unless_within 1 64 p.unroll)
-    ∷ limit Iterate (unless_within 1 64 p.iterate)
-    ∷ limit Dims (unless_within 0 4 (length (tile_items o)))
+    first_of (limit Unroll (unless_within 1 most_unroll p.unroll)
+    ∷ limit Iterate (unless_within 1 most_iterate p.iterate)
+    ∷ limit Dims (unless_within 0 most_dims (length (tile_items o)))
     ∷ limit TileKind (tile_past p)
     ∷ limit Offset (offset_past o)
-    ∷ limit Tensors (unless_within 0 512 (length p.tensors))
+    ∷ limit Tensors (unless_within 0 most_tensors (length p.tensors))
     ∷ limit Params (params_past p)
     ∷ [])
 
 -- the first limit on the staged program that is passed, if one is
 unfoldable pub count_refusal : PlainProgram → Option Refusal
 count_refusal p =
-    first_of (limit Live (unless_within 0 512 (live_count p))
-    ∷ limit Reads (unless_within 0 16384 (read_count p))
+    first_of (limit Live (unless_within 0 most_live (live_count p))
+    ∷ limit Reads (unless_within 0 most_reads (read_count p))
     ∷ [])
 
 -- why the burst width or the use of a param is refused, if one is
@@ -102,5 +103,8 @@ pub record Accepts (most : ℕ) (bytes : List ℕ) (p : PlainProgram) : Type 0 w
 pub data Refuses (most : ℕ) (bytes : List ℕ) : Refusal → Type 0 where
   too_long : most < length bytes → Refuses most bytes TextTooLong
   no_ascii : {line : ℕ} → length bytes ≤ most → not_ascii bytes ≡ Some line → Refuses most bytes (NotAscii line)
-  no_syntax : {line : ℕ} → length bytes ≤ most → not_ascii bytes ≡ None → IsSyntaxError bytes line → Refuses most bytes (Syntax line)
-  not_valid : {r : Refusal} (ss : List PlainStatement) → length bytes ≤ most → not_ascii bytes ≡ None → IsSyntax (tokens_of bytes) ss → statement_refusal ss ≡ Some r → Refuses most bytes r
+  no_syntax : {line : ℕ} →
+      length bytes ≤ most → not_ascii bytes ≡ None → IsSyntaxError bytes line → Refuses most bytes (Syntax line)
+  not_valid : {r : Refusal} (ss : List PlainStatement) →
+      length bytes ≤ most → not_ascii bytes ≡ None → IsSyntax (tokens_of bytes) ss → statement_refusal ss ≡ Some r →
+      Refuses most bytes r

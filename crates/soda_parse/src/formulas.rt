@@ -5,13 +5,14 @@ ghost use Rattle.soda_checks.specs.Outline.{is_same};
 ghost use Rattle.soda_formula.specs.Tree.{term_of};
 ghost use Rattle.soda_ir.specs.Tree.{formula_of as formula};
 ghost use Rattle.soda_parse.specs.Meaning.{cell_formula, formula_of, int_type, offset_or_none, place_at, place_of, place_or_0, shifted, tensor_number, named_value};
+ghost use Rattle.soda_words.specs.Limits.{most_offset};
 
 use crate::NoMemory;
 use arrayvec::ArrayVec;
-use soda_words::{Ty, int32, Word};
 use soda_checks::{Names, Outline, are_below, param_of, type_of};
-use soda_formula::{Written, Size};
+use soda_formula::{Size, Written};
 use soda_ir::{Expr, Offset};
+use soda_words::{MOST_DIMS, MOST_OFFSET, MOST_VALUES, Ty, Word, int32};
 use sqlite_items::Boxed;
 use std::alloc::Global;
 
@@ -80,11 +81,12 @@ pub(crate) fn component(components: &[i128], place: usize) -> i128
     }
 }
 
-// The difference of two components, if it is at most 32,768 in magnitude.
+// The difference of two components, if its magnitude is at most the greatest of an offset.
 fn near_difference(a: i128, b: i128) -> Option<i64>
-    ensures { MatchOption result (nat_le (unsigned_abs (a -ℤ b)) 32768 ≡ false) (λ d. (d ≡ a -ℤ b) × (nat_le (unsigned_abs d) 32768 ≡ true)) }
+    ensures { MatchOption result (nat_le (unsigned_abs (a -ℤ b)) most_offset ≡ false)
+        (λ d. (d ≡ a -ℤ b) × (nat_le (unsigned_abs d) most_offset ≡ true)) }
 {
-    if a.abs_diff(b) > 32768 {
+    if a.abs_diff(b) > MOST_OFFSET as u128 {
         return None;
     }
     Some((a - b) as i64)
@@ -95,7 +97,7 @@ fn offset_or_none(offsets: &[i128], left: &[i128]) -> Offset
     ensures { result.items ≡ offset_or_none (shifted offsets.now left.now) }
 {
     let mut offset = ArrayVec::new();
-    if offsets.len() > 4 {
+    if offsets.len() > MOST_DIMS {
         return offset;
     }
     for (i, d) in offsets.iter().enumerate() {
@@ -144,7 +146,11 @@ fn place_of(sizes: &[Size], indexes: &[u64]) -> u32
         return 0;
     }
     let place = place_at(sizes, indexes);
-    if place < 65536 { place as u32 } else { 0 }
+    if place < MOST_VALUES as u128 {
+        place as u32
+    } else {
+        0
+    }
 }
 
 // The value of a param, and 0 where there is none.

@@ -1,17 +1,13 @@
 //! Program texts: which are accepted, as which programs, and which are refused, and why.
 #![tactic(auto)]
 
+mod conditions;
 mod formulas;
-mod limits;
 mod printing;
-#[cfg(test)]
-mod printing_tests;
 mod program;
 mod reading;
 mod refusal;
 mod refusing;
-#[cfg(test)]
-mod tests;
 
 pub use printing::print;
 pub use reading::{ParseFail, parse};

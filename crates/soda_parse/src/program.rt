@@ -9,8 +9,8 @@ ghost use Rattle.soda_formula.specs.Statements.{plain_line, plain_statement};
 use crate::NoMemory;
 use crate::formulas::{int_type, make_formula};
 use soda_checks::{Names, Outline, first_tile};
-use soda_ir::{Border, Param, Parts, Role, Tensor};
 use soda_formula::{Extent, FormulaLine, InputLine, ParamLine, Size, Statement};
+use soda_ir::{Border, Param, Parts, Role, Tensor};
 use soda_words::Word;
 use sqlite_items::Items;
 use std::alloc::Global;
@@ -69,10 +69,12 @@ fn make_tensor(
     requires params { length outline.now.params < 2 ^ 32 }
     ensures { IfOk result (λ tensor. plain_tensor tensor ≡ tensor_of outline.now role (plain_line line.now)) }
 {
+    let name = text_of(alloc, &line.name)?;
+    let ty = int_type(&line.ty);
     let formula = make_formula(alloc, outline, names, line.left.as_slice(), &line.formula)?;
     Ok(Tensor {
-        name: text_of(alloc, &line.name)?,
-        ty: int_type(&line.ty),
+        name,
+        ty,
         role,
         formula: Some(formula),
     })
@@ -103,6 +105,25 @@ fn add_inputs(
     Ok(())
 }
 
+// Adds the tensor of a local or output.
+fn add_line(
+    alloc: Global,
+    outline: &Outline,
+    names: &Names,
+    role: Role,
+    line: &FormulaLine,
+    tensors: &mut Items<Tensor>,
+) -> Result<(), NoMemory>
+    requires names { names.now ≡ names_of outline.now }
+    requires tensors { length outline.now.inputs + length outline.now.defined < 2 ^ 32 }
+    requires params { length outline.now.params < 2 ^ 32 }
+    ensures { OnOk result (map plain_tensor tensors.new ≡
+        map plain_tensor tensors.old ++ tensor_of outline.now role (plain_line line.now) ∷ []) }
+{
+    let tensor = make_tensor(alloc, outline, names, role, line)?;
+    tensors.push(tensor)
+}
+
 // Adds the tensor of a local or output, and nothing for another statement.
 fn add_tensor(
     alloc: Global,
@@ -114,25 +135,20 @@ fn add_tensor(
     requires names { names.now ≡ names_of outline.now }
     requires tensors { length outline.now.inputs + length outline.now.defined < 2 ^ 32 }
     requires params { length outline.now.params < 2 ^ 32 }
-    ensures { OnOk result (map plain_tensor tensors.new ≡ map plain_tensor tensors.old ++ tensors_in outline.now (plain_statement statement.now)) }
+    ensures { OnOk result (map plain_tensor tensors.new ≡
+        map plain_tensor tensors.old ++ tensors_in outline.now (plain_statement statement.now)) }
 {
     match statement {
-        Statement::Local(line) => {
-            tensors.push(make_tensor(alloc, outline, names, Role::Local, line)?)?;
-            Ok(())
-        }
-        Statement::Output(line) => {
-            tensors.push(make_tensor(alloc, outline, names, Role::Output, line)?)?;
-            Ok(())
-        }
-        Statement::Kernel { .. } => Ok(()),
-        Statement::BurstWidth { .. } => Ok(()),
-        Statement::UnrollFactor { .. } => Ok(()),
-        Statement::Iterate { .. } => Ok(()),
-        Statement::Border { .. } => Ok(()),
-        Statement::Cluster { .. } => Ok(()),
-        Statement::Param(_) => Ok(()),
-        Statement::Input(_) => Ok(()),
+        Statement::Local(line) => add_line(alloc, outline, names, Role::Local, line, tensors),
+        Statement::Output(line) => add_line(alloc, outline, names, Role::Output, line, tensors),
+        Statement::Kernel { .. }
+        | Statement::BurstWidth { .. }
+        | Statement::UnrollFactor { .. }
+        | Statement::Iterate { .. }
+        | Statement::Border { .. }
+        | Statement::Cluster { .. }
+        | Statement::Param(_)
+        | Statement::Input(_) => Ok(()),
     }
 }
 
@@ -147,7 +163,8 @@ fn add_tensors(
     requires names { names.now ≡ names_of outline.now }
     requires tensors { length outline.now.inputs + length outline.now.defined < 2 ^ 32 }
     requires params { length outline.now.params < 2 ^ 32 }
-    ensures { OnOk result (map plain_tensor tensors.new ≡ map plain_tensor tensors.old ++ flat_map (tensors_in outline.now) (map plain_statement statements.now)) }
+    ensures { OnOk result (map plain_tensor tensors.new ≡
+        map plain_tensor tensors.old ++ flat_map (tensors_in outline.now) (map plain_statement statements.now)) }
 {
     for statement in statements {
         add_tensor(alloc, outline, names, statement, tensors)?;
@@ -226,6 +243,25 @@ fn border_of(preserves: &[bool]) -> Border
     }
 }
 
+// The tensors of the program: inputs first, then locals and outputs.
+fn make_tensors(
+    alloc: Global,
+    outline: &Outline,
+    names: &Names,
+    statements: &[Statement],
+) -> Result<Items<Tensor>, NoMemory>
+    requires names { names.now ≡ names_of outline.now }
+    requires tensors { length outline.now.inputs + length outline.now.defined < 2 ^ 32 }
+    requires params { length outline.now.params < 2 ^ 32 }
+    ensures { IfOk result (λ tensors. map plain_tensor tensors ≡
+        map input_of outline.now.inputs ++ flat_map (tensors_in outline.now) (map plain_statement statements.now)) }
+{
+    let mut tensors = Items::new(alloc);
+    add_inputs(alloc, outline.inputs.as_slice(), &mut tensors)?;
+    add_tensors(alloc, outline, names, statements, &mut tensors)?;
+    Ok(tensors)
+}
+
 /// The parts of the program that statements of this outline stand for.
 pub(crate) fn make_parts(
     alloc: Global,
@@ -238,17 +274,18 @@ pub(crate) fn make_parts(
     requires params { length outline.now.params < 2 ^ 32 }
     ensures { IfOk result (λ parts. plain parts ≡ program_by outline.now (map plain_statement statements.now)) }
 {
-    let mut tensors = Items::new(alloc);
-    add_inputs(alloc, outline.inputs.as_slice(), &mut tensors)?;
-    add_tensors(alloc, outline, names, statements, &mut tensors)?;
+    let kernel = make_kernel(alloc, statements)?;
+    let params = make_params(alloc, outline.params.as_slice())?;
+    let extents = extents_of(alloc, outline)?;
+    let tensors = make_tensors(alloc, outline, names, statements)?;
     Ok(Parts {
-        kernel: make_kernel(alloc, statements)?,
+        kernel,
         burst: first_or(outline.bursts.as_slice(), 0),
         unroll: first_or(outline.unrolls.as_slice(), 0),
         iterate: first_or(outline.iterates.as_slice(), 1),
         border: border_of(outline.preserves.as_slice()),
-        params: make_params(alloc, outline.params.as_slice())?,
-        extents: extents_of(alloc, outline)?,
+        params,
+        extents,
         tensors,
     })
 }

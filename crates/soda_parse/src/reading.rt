@@ -1,11 +1,10 @@
-ghost use Rattle.std.specs.Prelude.{◌≡◌, ◌<◌, ◌≤◌, ◌^◌, None, length, map, IfOk};
+ghost use Rattle.std.specs.Prelude.{◌≡◌, ◌<◌, ◌≤◌, ◌^◌, ⊥, None, length, map, IfOk};
 ghost use Rattle.soda_checks.specs.Names.{names_of};
 ghost use Rattle.soda_checks.specs.Outline.{outline_of};
 ghost use Rattle.soda_ir.specs.Program.{PlainProgram, plain};
 ghost use Rattle.soda_ir.specs.Valid.{IsValid};
 ghost use Rattle.soda_parse.specs.Fails.{IfRefused, unread};
-ghost use Rattle.soda_parse.specs.Meaning.{program_by};
-ghost use Rattle.soda_parse.specs.Text.{Accepts, Refuses, refusal_by};
+ghost use Rattle.soda_parse.specs.Text.{Accepts, Refuses};
 ghost use Rattle.soda_parse.specs.declared.refusal.Refusal.{Refusal as Cause};
 ghost use Rattle.soda_formula.specs.Statements.{plain_statement};
 ghost use Rattle.soda_syntax.specs.SyntaxError.{IsSyntax};
@@ -15,8 +14,8 @@ use crate::program::make_parts;
 use crate::refusing::refusal_by;
 use crate::{NoMemory, Refusal};
 use soda_checks::{Names, Outline, make_names, make_outline};
-use soda_ir::{MakeRefusal, Parts, Program};
 use soda_formula::Statement;
+use soda_ir::{MakeRefusal, Parts, Program};
 use soda_syntax::{SyntaxFail, read_statements};
 use soda_words::not_ascii;
 use std::alloc::Global;
@@ -31,82 +30,79 @@ pub enum ParseFail {
 }
 
 // The program of valid parts.
-fn make_program(alloc: Global, parts: Parts) -> Result<Program, NoMemory>
+fn make_program(alloc: Global, parts: Parts) -> Result<Program, ParseFail>
     requires { IsValid (plain parts) }
-    ensures { IfOk result (λ p. p ≡ parts) }
+    ensures made { IfOk result (λ p. p ≡ parts) }
+    ensures memory { IfRefused result (λ r. ⊥) }
 {
     match Program::make(alloc, parts) {
         Ok(program) => Ok(program),
         Err(MakeRefusal::Invalid) => unreachable!(),
-        Err(MakeRefusal::Memory) => Err(NoMemory),
+        Err(MakeRefusal::Memory) => Err(ParseFail::Memory),
     }
 }
 
-// The parts of the program that the statements of a text stand for, and why it is refused, if it is.
-struct Judged {
-    parts: Parts,
-    refusal: Option<Refusal>,
-}
-
-fn judge(alloc: Global, text: &[u8], statements: &[Statement]) -> Result<Judged, NoMemory>
-    requires short { length text.now < 2 ^ 32 }
-    requires syntax { IsSyntax (tokens_of text.now) (map plain_statement statements.now) }
-    ensures parts { IfOk result (λ judged. plain judged.parts ≡ program_by (outline_of (map plain_statement statements.now)) (map plain_statement statements.now)) }
-    ensures refusal { IfOk result (λ judged. judged.refusal ≡ refusal_by (outline_of (map plain_statement statements.now)) (plain judged.parts)) }
-{
-    let outline = make_outline(alloc, statements)?;
-    let judged = judge_by(alloc, text, statements, &outline);
-    drop(outline);
-    judged
-}
-
-// The same, by the outline of the statements.
-fn judge_by(
+// The program of the parts that the statements of a text stand for, or why the text is refused.
+fn answer_parts(
     alloc: Global,
     text: &[u8],
-    statements: &[Statement],
-    outline: &Outline,
-) -> Result<Judged, NoMemory>
-    requires short { length text.now < 2 ^ 32 }
-    requires syntax { IsSyntax (tokens_of text.now) (map plain_statement statements.now) }
-    requires outline { outline.now ≡ outline_of (map plain_statement statements.now) }
-    ensures parts { IfOk result (λ judged. plain judged.parts ≡ program_by outline.now (map plain_statement statements.now)) }
-    ensures refusal { IfOk result (λ judged. judged.refusal ≡ refusal_by outline.now (plain judged.parts)) }
-{
-    let names = make_names(alloc, outline)?;
-    let judged = judge_named(alloc, text, statements, outline, &names);
-    drop(names);
-    judged
-}
-
-// The same, by the names in the outline.
-fn judge_named(
-    alloc: Global,
-    text: &[u8],
+    most: u32,
     statements: &[Statement],
     outline: &Outline,
     names: &Names,
-) -> Result<Judged, NoMemory>
-    requires short { length text.now < 2 ^ 32 }
+) -> Result<Program, ParseFail>
+    requires short { length text.now ≤ most }
+    requires few { length text.now < 2 ^ 32 }
+    requires ascii { not_ascii text.now ≡ None }
     requires syntax { IsSyntax (tokens_of text.now) (map plain_statement statements.now) }
     requires outline { outline.now ≡ outline_of (map plain_statement statements.now) }
     requires names { names.now ≡ names_of outline.now }
-    ensures parts { IfOk result (λ judged. plain judged.parts ≡ program_by outline.now (map plain_statement statements.now)) }
-    ensures refusal { IfOk result (λ judged. judged.refusal ≡ refusal_by outline.now (plain judged.parts)) }
+    ensures accepted { IfOk result (λ p. Accepts most text.now (plain p)) }
+    ensures refused { IfRefused result (Refuses most text.now) }
 {
     let _ = text;
-    let parts = make_parts(alloc, outline, names, statements)?;
+    let _ = most;
+    let Ok(parts) = make_parts(alloc, outline, names, statements) else {
+        return Err(ParseFail::Memory);
+    };
     match refusal_by(alloc, outline, names, &parts) {
-        Ok(refusal) => Ok(Judged { parts, refusal }),
-        Err(fail) => {
+        Ok(None) => make_program(alloc, parts),
+        Ok(Some(refusal)) => {
             drop(parts);
-            Err(fail)
+            Err(ParseFail::Refused(refusal))
+        }
+        Err(NoMemory) => {
+            drop(parts);
+            Err(ParseFail::Memory)
         }
     }
 }
 
+// The same, by the outline of the statements.
+fn answer_outline(
+    alloc: Global,
+    text: &[u8],
+    most: u32,
+    statements: &[Statement],
+    outline: &Outline,
+) -> Result<Program, ParseFail>
+    requires short { length text.now ≤ most }
+    requires ascii { not_ascii text.now ≡ None }
+    requires syntax { IsSyntax (tokens_of text.now) (map plain_statement statements.now) }
+    requires outline { outline.now ≡ outline_of (map plain_statement statements.now) }
+    ensures accepted { IfOk result (λ p. Accepts most text.now (plain p)) }
+    ensures refused { IfRefused result (Refuses most text.now) }
+{
+    let Ok(names) = make_names(alloc, outline) else {
+        return Err(ParseFail::Memory);
+    };
+    let answer = answer_parts(alloc, text, most, statements, outline, &names);
+    drop(names);
+    answer
+}
+
 // The program that the statements of a text stand for, or why it is refused.
-fn program_of(
+fn answer_statements(
     alloc: Global,
     text: &[u8],
     most: u32,
@@ -118,18 +114,12 @@ fn program_of(
     ensures accepted { IfOk result (λ p. Accepts most text.now (plain p)) }
     ensures refused { IfRefused result (Refuses most text.now) }
 {
-    let _ = most;
-    let Ok(judged) = judge(alloc, text, statements) else {
+    let Ok(outline) = make_outline(alloc, statements) else {
         return Err(ParseFail::Memory);
     };
-    let Judged { parts, refusal } = judged;
-    if let Some(refusal) = refusal {
-        return Err(ParseFail::Refused(refusal));
-    }
-    match make_program(alloc, parts) {
-        Ok(program) => Ok(program),
-        Err(NoMemory) => Err(ParseFail::Memory),
-    }
+    let answer = answer_outline(alloc, text, most, statements, &outline);
+    drop(outline);
+    answer
 }
 
 // The answer to a text whose statements were not read.
@@ -154,7 +144,11 @@ fn read_text(alloc: Global, text: &[u8], most: u32) -> Result<Program, ParseFail
         return Err(ParseFail::Refused(Refusal::NotAscii(line)));
     }
     match read_statements(alloc, text) {
-        Ok(statements) => program_of(alloc, text, most, &statements),
+        Ok(statements) => {
+            let answer = answer_statements(alloc, text, most, &statements);
+            drop(statements);
+            answer
+        }
         Err(fail) => Err(unread(fail)),
     }
 }

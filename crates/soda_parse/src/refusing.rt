@@ -5,7 +5,7 @@ ghost use Rattle.soda_ir.specs.Program.{plain};
 ghost use Rattle.soda_parse.specs.Meaning.{tile_items};
 ghost use Rattle.soda_parse.specs.Text.{count_refusal, late_refusal, names_refusal, refusal_by, shape_by, shape_refusal, size_refusal, use_refusal};
 
-use crate::limits::{
+use crate::conditions::{
     bad_burst, circular, iterate_mismatch, offset_past, outputs_fit, params_past,
     preserve_mismatch, tile_past, unless_within,
 };
@@ -15,6 +15,7 @@ use soda_checks::{
     unknown_name, wrong_dims, wrong_tile,
 };
 use soda_ir::{LimitKind, Parts, live_count, read_count};
+use soda_words::{MOST_DIMS, MOST_ITERATE, MOST_LIVE, MOST_READS, MOST_TENSORS, MOST_UNROLL};
 use std::alloc::Global;
 
 /// Why names and types are refused, if they are.
@@ -107,13 +108,13 @@ pub(crate) fn size_refusal(outline: &Outline, names: &Names, parts: &Parts) -> O
     requires { names.now ≡ names_of outline.now }
     ensures { result ≡ size_refusal outline.now (plain parts.now) }
 {
-    if let Some(n) = unless_within(1, 64, parts.unroll as u128) {
+    if let Some(n) = unless_within(1, MOST_UNROLL as u128, parts.unroll as u128) {
         return Some(Refusal::Limit(LimitKind::Unroll, n));
     }
-    if let Some(n) = unless_within(1, 64, parts.iterate as u128) {
+    if let Some(n) = unless_within(1, MOST_ITERATE as u128, parts.iterate as u128) {
         return Some(Refusal::Limit(LimitKind::Iterate, n));
     }
-    if let Some(n) = unless_within(0, 4, dims(outline) as u128) {
+    if let Some(n) = unless_within(0, MOST_DIMS as u128, dims(outline) as u128) {
         return Some(Refusal::Limit(LimitKind::Dims, n));
     }
     if let Some(n) = tile_past(parts.extents.as_slice()) {
@@ -122,7 +123,7 @@ pub(crate) fn size_refusal(outline: &Outline, names: &Names, parts: &Parts) -> O
     if let Some(n) = offset_past(outline, names) {
         return Some(Refusal::Limit(LimitKind::Offset, n));
     }
-    if let Some(n) = unless_within(0, 512, parts.tensors.len() as u128) {
+    if let Some(n) = unless_within(0, MOST_TENSORS as u128, parts.tensors.len() as u128) {
         return Some(Refusal::Limit(LimitKind::Tensors, n));
     }
     match params_past(parts.params.as_slice()) {
@@ -138,11 +139,11 @@ pub(crate) fn count_refusal(alloc: Global, parts: &Parts) -> Result<Option<Refus
     ensures { IfOk result (λ refusal. refusal ≡ count_refusal (plain parts.now)) }
 {
     let live = live_count(alloc, parts)?;
-    if let Some(n) = unless_within(0, 512, live as u128) {
+    if let Some(n) = unless_within(0, MOST_LIVE as u128, live as u128) {
         return Ok(Some(Refusal::Limit(LimitKind::Live, n)));
     }
     let reads = read_count(alloc, parts)?;
-    match unless_within(0, 16384, reads) {
+    match unless_within(0, MOST_READS as u128, reads) {
         Some(n) => Ok(Some(Refusal::Limit(LimitKind::Reads, n))),
         None => Ok(None),
     }
@@ -196,7 +197,8 @@ pub(crate) fn refusal_by(
     requires names { names.now ≡ names_of outline.now }
     requires tensors { length parts.now.tensors < 2 ^ 32 }
     requires few { length outline.now.inputs + length outline.now.defined < 2 ^ 32 }
-    requires countable { names_refusal outline.now ≡ None → shape_refusal outline.now (plain parts.now) ≡ None → size_refusal outline.now (plain parts.now) ≡ None → IsCountable (plain parts.now) }
+    requires countable { names_refusal outline.now ≡ None → shape_refusal outline.now (plain parts.now) ≡ None →
+        size_refusal outline.now (plain parts.now) ≡ None → IsCountable (plain parts.now) }
     ensures { IfOk result (λ refusal. refusal ≡ refusal_by outline.now (plain parts.now)) }
 {
     if let Some(refusal) = names_refusal(outline, names) {

@@ -1,10 +1,10 @@
 -- Statements read one behind another, and where reading stops.
-use Rattle.std.proofs.Common.{◌≡◌, ◌⊎◌, inl, inr, List, [], ◌∷◌, ◌++◌, refl, sym, ◌∙◌, ap, subst}
+use Rattle.std.proofs.Common.{◌≡◌, ◌⊎◌, inl, inr, List, [], ◌∷◌, ◌++◌, refl, sym, ◌∙◌, ap, subst, append-nil, append_assoc}
 use Rattle.soda_words.specs.declared.token.Placed.{Placed}
 use Rattle.soda_formula.specs.Statements.{PlainStatement}
 use Rattle.soda_syntax.specs.Grammar.{IsStatement, AreStatements, no_statement, statement_before}
 use Rattle.soda_syntax.specs.SyntaxError.{BeginsText, IsTooLarge, IsGoodStart}
-use Rattle.soda_syntax.proofs.Lists.{compare, append-nil, append-assoc}
+use Rattle.soda_syntax.proofs.Lists.{compare}
 use Rattle.soda_syntax.proofs.Standing.{BeginsStatement, name_ends}
 use Rattle.soda_syntax.proofs.Texts.{IsLargeLine, IsRead, Parts, parts_of_begun, parts_before, text_parts, begins_front, whole_begins, nothing_begins, one_more, tail_begins, parts_down, large_down, whole_down, large_up, inside_small}
 
@@ -38,7 +38,7 @@ pub shrink : {ts last : List Placed} {ss : List PlainStatement} → Reads ts ss 
 shrink (reads_none ts) w y e = record { less = w; is = e; reads = reads_none w }
 shrink (reads_more {front = front} r more) w y e =
     let k : Shrunk _ _ w y = shrink more w y e in
-    record { less = front ++ k.less; is = ap (λ x. front ++ x) k.is ∙ sym (append-assoc front k.less y); reads = reads_more (restricted r k.less y k.is) k.reads }
+    record { less = front ++ k.less; is = ap (λ x. front ++ x) k.is ∙ sym (append_assoc front k.less y); reads = reads_more (restricted r k.less y k.is) k.reads }
 
 nothing_left : (ts : List Placed) → ts ≡ ts ++ []
 nothing_left ts = sym (append-nil ts)
@@ -115,7 +115,7 @@ stop_goes front rest t r stop e p = by p.whole p.is
     by : {before : List Placed} {ss : List PlainStatement} → AreStatements before ss → front ++ t ∷ [] ≡ before ++ p.tail → BeginsStatement (front ++ t ∷ [])
     by no_statement f = subst BeginsStatement (sym f) p.begun
     by (statement_before {ts = a} {us = us} {s = s} st more) f =
-        elim (compare front a (t ∷ []) (us ++ p.tail) (f ∙ append-assoc a us p.tail)) [
+        elim (compare front a (t ∷ []) (us ++ p.tail) (f ∙ append_assoc a us p.tail)) [
           | inl k ↦ beyond k.more k.front k.rest
           | inr k ↦ absurd (name_ends k.first st (tail_begins p.tail k.first (k.more ++ t ∷ []) more p.begun k.rest) (one_more a k.first k.more (subst BeginsStatement k.front stop.begins)))
         ]

@@ -1,5 +1,5 @@
 -- Each statement of the grammar is read by the steps.
-use Rattle.std.proofs.Common.{◌≡◌, ◌⊎◌, inl, inr, ℕ, ◌+◌, ◌≤◌, ◌<◌, true, false, nat_lt, List, [], ◌∷◌, ◌++◌, length, Option, Some, ℤ, refl, sym, ◌∙◌, ap, arith, if◌then◌else◌, length-append}
+use Rattle.std.proofs.Common.{◌≡◌, ◌⊎◌, inl, inr, ℕ, ◌+◌, ◌≤◌, ◌<◌, true, false, nat_lt, List, [], ◌∷◌, ◌++◌, length, Option, Some, ℤ, refl, sym, ◌∙◌, ap, arith, if◌then◌else◌, length-append, append-nil, append_assoc}
 use Rattle.std.proofs.lemmas.Bool.{lt-ltb}
 use Rattle.soda_words.specs.declared.symbol.Symbol.TheVariants.{CloseRound, CloseSquare, Colon, EqualSign}
 use Rattle.soda_words.specs.declared.token.Placed.{Placed}
@@ -20,9 +20,8 @@ use Rattle.soda_formula.specs.declared.statement.Statement.{Statement}
 use Rattle.soda_formula.specs.declared.statement.Statement.TheVariants.{Kernel, BurstWidth, UnrollFactor, Iterate, Border, Cluster, Param, Input}
 use Rattle.soda_formula.specs.Statements.{PlainStatement, plain_statement}
 use Rattle.soda_syntax.specs.Grammar.{IsExtent, a_number, a_star, AreSizes, no_size, size_before, AreDotted, last_number, number_before, IsBank, no_bank, a_bank, MayBeType, IsTile, no_tile, a_tile, IsLeftSide, IsLocalHead, IsOutputHead, IsStatement, a_kernel, a_burst_width, an_unroll_factor, an_iterate, ignored_border, preserved_border, a_cluster, a_param, an_input, a_local, an_output}
-use Rattle.soda_syntax.specs.Lines.{line_of}
-use Rattle.soda_syntax.specs.Machine.{step, steps, stage_of, then_step, finish, typed, tiled, left_side, more_sizes}
-use Rattle.soda_syntax.proofs.Lists.{append-nil, append-assoc}
+use Rattle.soda_syntax.specs.machine.Lines.{line_of}
+use Rattle.soda_syntax.specs.machine.Steps.{step, steps, stage_of, then_step, finish, typed, tiled, left_side, more_sizes}
 
 -- the steps read the tokens as a statement without a formula
 pub record IsPlain (ts : List Placed) (s : PlainStatement) : Type 0 where
@@ -64,15 +63,12 @@ bank_read (a_bank line d) r w m rest = dotted_read d r w m rest
 with_sizes : ParamLine → List Size → ParamLine
 with_sizes p ss = record { ty = p.ty; name = p.name; sizes = p.sizes ++ ss }
 
-lt_true : (a b : ℕ) → a < b → nat_lt a b ≡ true
-lt_true a b h = lt-ltb a b h
-
 sizes_read : {ts : List Placed} {ss : List Size} → AreSizes ts ss → (p : ParamLine) → length p.sizes + length ss ≤ 2 → steps (Some (Sizes p)) ts ≡ Some (Sizes (with_sizes p ss))
 unfolding step with_sizes
 sizes_read no_size p few = ap (λ ss. Some (Sizes (record { ty = p.ty; name = p.name; sizes = ss }))) (sym (append-nil p.sizes))
 sizes_read (size_before {ts} {sizes} opened line n closed are) p few =
     let more : length (p.sizes ++ record { line = line; value = n } ∷ []) + length sizes ≤ 2 = omega (arith, length-append p.sizes (record { line = line; value = n } ∷ []), few) in
-    ap (λ b. steps (then_step (then_step (stage_of (if b then Goes (SizeNumber p) else Whole (Param p))) (number_on line n)) (symbol_on closed CloseSquare)) ts) (lt_true (length p.sizes) 2 (omega (arith, few))) ∙ (sizes_read are (more_sizes p line n) more ∙ ap (λ ss. Some (Sizes (record { ty = p.ty; name = p.name; sizes = ss }))) (append-assoc p.sizes (record { line = line; value = n } ∷ []) sizes))
+    ap (λ b. steps (then_step (then_step (stage_of (if b then Goes (SizeNumber p) else Whole (Param p))) (number_on line n)) (symbol_on closed CloseSquare)) ts) (lt-ltb (length p.sizes) 2 (omega (arith, few))) ∙ (sizes_read are (more_sizes p line n) more ∙ ap (λ ss. Some (Sizes (record { ty = p.ty; name = p.name; sizes = ss }))) (append_assoc p.sizes (record { line = line; value = n } ∷ []) sizes))
 
 with_items : TileSoFar → List Extent → TileSoFar
 with_items d es = record { ty = d.ty; name = d.name; items = d.items ++ es }
@@ -82,9 +78,9 @@ unfolding step with_items
 tile_read (last_item (a_number line n)) d closed = refl
 tile_read (last_item (a_star line)) d closed = refl
 tile_read (item_before {others = es} comma (a_number line n) are) d closed =
-    tile_read are _ closed ∙ ap (λ items. Some (Finished (tiled (record { ty = d.ty; name = d.name; items = items })))) (append-assoc d.items _ es)
+    tile_read are _ closed ∙ ap (λ items. Some (Finished (tiled (record { ty = d.ty; name = d.name; items = items })))) (append_assoc d.items _ es)
 tile_read (item_before {others = es} comma (a_star line) are) d closed =
-    tile_read are _ closed ∙ ap (λ items. Some (Finished (tiled (record { ty = d.ty; name = d.name; items = items })))) (append-assoc d.items _ es)
+    tile_read are _ closed ∙ ap (λ items. Some (Finished (tiled (record { ty = d.ty; name = d.name; items = items })))) (append_assoc d.items _ es)
 
 with_offsets : LeftSide → List ℤ → LeftSide
 with_offsets l os = record { role = l.role; ty = l.ty; name = l.name; offsets = l.offsets ++ os }
@@ -94,9 +90,9 @@ unfolding step with_offsets
 components_read (last_item (ahead line n)) l closed rest = refl
 components_read (last_item (back minus line n)) l closed rest = refl
 components_read (item_before {others = os} comma (ahead line n) are) l closed rest =
-    components_read are _ closed rest ∙ ap (λ offsets. steps (Some (Equals (record { role = l.role; ty = l.ty; name = l.name; offsets = offsets }))) rest) (append-assoc l.offsets _ os)
+    components_read are _ closed rest ∙ ap (λ offsets. steps (Some (Equals (record { role = l.role; ty = l.ty; name = l.name; offsets = offsets }))) rest) (append_assoc l.offsets _ os)
 components_read (item_before {others = os} comma (back minus line n) are) l closed rest =
-    components_read are _ closed rest ∙ ap (λ offsets. steps (Some (Equals (record { role = l.role; ty = l.ty; name = l.name; offsets = offsets }))) rest) (append-assoc l.offsets _ os)
+    components_read are _ closed rest ∙ ap (λ offsets. steps (Some (Equals (record { role = l.role; ty = l.ty; name = l.name; offsets = offsets }))) rest) (append_assoc l.offsets _ os)
 
 offsets_read : (ts : List Placed) (os : List ℤ) → AreOffsets ts os → (l : LeftSide) (rest : List Placed) → steps (Some (OffsetsOpen l)) (ts ++ rest) ≡ steps (Some (Equals (with_offsets l os))) rest
 unfolding step

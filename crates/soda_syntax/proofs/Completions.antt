@@ -1,5 +1,5 @@
 -- Whatever the steps have read, some statement goes on with it.
-use Rattle.std.proofs.Common.{◌≡◌, ℕ, List, [], ◌∷◌, ◌++◌, codes, Some, refl, sym, ◌∙◌, ap, subst}
+use Rattle.std.proofs.Common.{◌≡◌, ℕ, List, [], ◌∷◌, ◌++◌, codes, Some, refl, sym, ◌∙◌, ap, subst, append_assoc}
 use Rattle.soda_words.specs.declared.symbol.Symbol.TheVariants.{OpenRound, CloseRound, CloseSquare, Colon, EqualSign}
 use Rattle.soda_words.specs.declared.token.Placed.{Placed}
 use Rattle.soda_words.specs.declared.token.Word.{Word}
@@ -15,9 +15,8 @@ use Rattle.soda_syntax.specs.declared.stage.Stage.{Stage}
 use Rattle.soda_syntax.specs.declared.stage.Stage.TheVariants.{Start, WidthWord, FactorWord, SettingColon, SettingValue, Finished, BankOrType, BankNumber, BankMore, TypeWord, RoleColon, RoleName, Sizes, SizeNumber, SizeClose, TileOrEnd, TileItem, TileMore, OffsetsOpen, Component, Magnitude, ComponentMore, Equals, Formula}
 use Rattle.soda_formula.specs.Statements.{plain_statement}
 use Rattle.soda_syntax.specs.Grammar.{IsStatement, a_local, an_output}
-use Rattle.soda_syntax.specs.Lines.{line_of}
-use Rattle.soda_syntax.specs.Machine.{step, steps, declared_as}
-use Rattle.soda_syntax.proofs.Lists.{append-assoc}
+use Rattle.soda_syntax.specs.machine.Lines.{line_of}
+use Rattle.soda_syntax.specs.machine.Steps.{step, steps, declared_as}
 use Rattle.soda_syntax.proofs.Running.{steps-append}
 use Rattle.soda_syntax.proofs.Outcomes.{Outcome, lines, outcomes, runs}
 use Rattle.soda_syntax.proofs.Sound.{IsHeadAs, local_head, output_head, IsAs, as_statement, as_head, sound}
@@ -125,7 +124,7 @@ line_whole (output_head ty name left h) f = an_output ty name h f
 outcome_begins : (ts more : List Placed) (out : Outcome) → IsAs out (ts ++ more) → BeginsStatement ts
 outcome_begins ts more out (as_statement {s} is) = (more, plain_statement s, is)
 outcome_begins ts more out (as_head {l} h) =
-    (more ++ number_on 0 0 ∷ [], line_of l (literal 0), subst (λ x. IsStatement x (line_of l (literal 0))) (append-assoc ts more (number_on 0 0 ∷ [])) (line_whole h (number_term 0 0)))
+    (more ++ number_on 0 0 ∷ [], line_of l (literal 0), subst (λ x. IsStatement x (line_of l (literal 0))) (append_assoc ts more (number_on 0 0 ∷ [])) (line_whole h (number_term 0 0)))
 
 -- where the steps stand, some statement begins
 pub head_begins : (ts : List Placed) (s : Stage) → steps (Some Start) ts ≡ Some s → BeginsStatement ts
@@ -143,4 +142,4 @@ head_is ts l e = head_of_line (sound ts (lines l) (ap outcomes e))
 -- a head and the beginning of a formula begin a statement
 pub formula_begins : (head part : List Placed) (l : LeftSide) → steps (Some Start) head ≡ Some (Formula l) → BeginsFormula part → BeginsStatement (head ++ part)
 formula_begins head part l e (rest, a, f) =
-    (rest, line_of l a, subst (λ x. IsStatement x (line_of l a)) (sym (append-assoc head part rest)) (line_whole (head_is head l e) f))
+    (rest, line_of l a, subst (λ x. IsStatement x (line_of l a)) (sym (append_assoc head part rest)) (line_whole (head_is head l e) f))

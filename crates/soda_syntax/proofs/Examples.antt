@@ -7,7 +7,7 @@ use Rattle.soda_formula.specs.Grammar.{symbol_on, name_on, number_on, last_item,
 use Rattle.soda_formula.specs.declared.statement.Extent.TheVariants.{Fixed, Open}
 use Rattle.soda_formula.specs.Statements.{kernel, iterate, param, input}
 use Rattle.soda_syntax.specs.Grammar.{a_number, a_star, no_size, size_before, last_number, number_before, a_bank, a_tile, IsLocalHead, IsStatement, a_kernel, an_iterate, a_param, an_input, AreStatements, no_statement, statement_before}
-use Rattle.soda_syntax.specs.Machine.{step}
+use Rattle.soda_syntax.specs.machine.Steps.{step}
 use Rattle.soda_syntax.proofs.Standing.{BeginsStatement, stuck, head_refuses}
 
 abbrev word : List ℕ → Word

@@ -1,11 +1,11 @@
 -- A statement that is read from the front, and a place where reading stops, as fronts of the tokens.
-use Rattle.std.proofs.Common.{◌≡◌, inl, inr, ℕ, suc, ◌+◌, ◌≤◌, List, [], ◌∷◌, ◌++◌, length, take, drop, Some, None, sym, ◌∙◌, ap, subst, arith}
+use Rattle.std.proofs.Common.{◌≡◌, inl, inr, ℕ, suc, ◌+◌, ◌≤◌, List, [], ◌∷◌, ◌++◌, length, take, drop, Some, None, sym, ◌∙◌, ap, subst, arith, append_assoc}
 use Rattle.std.proofs.Math.Seq.{take-add}
 use Rattle.soda_words.specs.declared.token.Placed.{Placed}
 use Rattle.soda_formula.specs.Terms.{Term}
 use Rattle.soda_formula.specs.Grammar.{name_on, IsFormula}
 use Rattle.soda_formula.specs.Reading.{BeginsFormula, IsLarge}
-use Rattle.soda_formula.proofs.Laws.{name_ends_formula}
+use Rattle.soda_formula.proofs.CallerLemmas.{name_ends_formula}
 use Rattle.soda_syntax.specs.declared.stage.LeftSide.{LeftSide}
 use Rattle.soda_syntax.specs.declared.stage.Stage.{Stage}
 use Rattle.soda_syntax.specs.declared.stage.Stage.TheVariants.{Start, Formula}
@@ -13,9 +13,8 @@ use Rattle.soda_formula.specs.declared.statement.Statement.{Statement}
 use Rattle.soda_formula.specs.Statements.{PlainStatement, plain_statement}
 use Rattle.soda_syntax.specs.Grammar.{IsStatement}
 use Rattle.soda_syntax.specs.SyntaxError.{IsHead}
-use Rattle.soda_syntax.specs.Machine.{steps, finish}
-use Rattle.soda_syntax.specs.Pieces.{left_of, ReadsPlain, ReadsLine, ReadsStatement, StopsPlain, StopsLine, StopsStatement}
-use Rattle.soda_syntax.proofs.Lists.{append-assoc}
+use Rattle.soda_syntax.specs.machine.Steps.{steps, finish}
+use Rattle.soda_syntax.specs.machine.Pieces.{left_of, ReadsPlain, ReadsLine, ReadsStatement, StopsPlain, StopsLine, StopsStatement}
 use Rattle.soda_syntax.proofs.Takes.{get_of_drop, take_one_more, one_more_within, drop_add, front_taken, front_short, drop_none_short}
 use Rattle.soda_syntax.proofs.Running.{steps-append, steps-formula, some_not_none, one_head}
 use Rattle.soda_syntax.proofs.Complete.{complete}
@@ -39,7 +38,7 @@ no_formula_before head x l stage h e nf = by x (sym (steps-append (Some Start) h
 pub no_large : (front : List Placed) (stage : Stage) → steps (Some Start) front ≡ Some stage → left_of stage ≡ None → (p y : List Placed) → front ≡ p ++ y → IsLargeLine p → ⊥
 no_large front stage e nf p y is large =
     let h : (l : LeftSide) × (steps (Some Start) large.head ≡ Some (Formula l)) = head_steps large.head large.left in
-    let whole : large.head ++ (large.part ++ y) ≡ front = sym (append-assoc large.head large.part y) ∙ (ap (λ x. x ++ y) (sym large.is) ∙ sym is) in
+    let whole : large.head ++ (large.part ++ y) ≡ front = sym (append_assoc large.head large.part y) ∙ (ap (λ x. x ++ y) (sym large.is) ∙ sym is) in
     no_formula_before large.head (large.part ++ y) h.0 stage h.1 (ap (steps (Some Start)) whole ∙ e) nf
 
 plain_whole : {s : Statement} {ts : List Placed} → IsAs (ends s) ts → IsStatement ts (plain_statement s)
@@ -88,7 +87,7 @@ module _ (ts : List Placed) (n at size : ℕ) (left : LeftSide) (read : steps (S
   line_small : ((j : ℕ) → j ≤ size → IsLarge (take j (drop at ts)) → ⊥) → (p y : List Placed) → take n ts ≡ p ++ y → IsLargeLine p → ⊥
   line_small never p y e large =
       let h : (l : LeftSide) × (steps (Some Start) large.head ≡ Some (Formula l)) = head_steps large.head large.left in
-      let whole : take at ts ++ take size (drop at ts) ≡ large.head ++ (large.part ++ y) = sym parted ∙ (e ∙ (ap (λ x. x ++ y) large.is ∙ append-assoc large.head large.part y)) in
+      let whole : take at ts ++ take size (drop at ts) ≡ large.head ++ (large.part ++ y) = sym parted ∙ (e ∙ (ap (λ x. x ++ y) large.is ∙ append_assoc large.head large.part y)) in
       let o : (take at ts ≡ large.head) × (take size (drop at ts) ≡ large.part ++ y) × (left ≡ h.0) = one_head (take at ts) large.head (take size (drop at ts)) (large.part ++ y) left h.0 whole read h.1 in
       never (length large.part) (front_short size (drop at ts) large.part y o.1) (subst IsLarge (sym (front_taken size (drop at ts) large.part y o.1)) large.large)
 
@@ -144,7 +143,7 @@ line_is_stop ts n r =
               nl (record {
                 head = take r.at ts;
                 part = take r.size (drop r.at ts) ++ t ∷ [];
-                is = ap (λ v. v ++ t ∷ []) whole ∙ append-assoc (take r.at ts) (take r.size (drop r.at ts)) (t ∷ []);
+                is = ap (λ v. v ++ t ∷ []) whole ∙ append_assoc (take r.at ts) (take r.size (drop r.at ts)) (t ∷ []);
                 left = head_there (head_is (take r.at ts) r.left r.read);
                 begun = subst BeginsFormula more f;
                 large = subst IsLarge more large;

@@ -1,9 +1,9 @@
 -- Laws of the grammar of statements.
-use Rattle.std.proofs.Common.{◌≡◌, inl, inr, List, [], ◌∷◌, ◌++◌, refl, sym, ◌∙◌, subst}
+use Rattle.std.proofs.Common.{◌≡◌, inl, inr, List, [], ◌∷◌, ◌++◌, refl, sym, ◌∙◌, subst, append-nil}
 use Rattle.soda_words.specs.declared.token.Placed.{Placed}
 use Rattle.soda_formula.specs.Statements.{PlainStatement}
 use Rattle.soda_syntax.specs.Grammar.{IsStatement, AreStatements, no_statement, statement_before}
-use Rattle.soda_syntax.proofs.Lists.{compare, append-nil}
+use Rattle.soda_syntax.proofs.Lists.{compare}
 use Rattle.soda_syntax.proofs.Standing.{BeginsStatement, name_ends}
 use Rattle.soda_syntax.proofs.Texts.{no_empty, one_more, tail_begins, nothing_begins, whole_begins}
 use Rattle.soda_syntax.proofs.Unique.{statement_is_one}

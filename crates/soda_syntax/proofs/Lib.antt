@@ -13,6 +13,7 @@ mod Takes
 mod Walk
 mod Fronts
 mod Tops
+pub mod CallerLemmas
 pub mod Laws
 mod Examples
 pub mod SmallLines

@@ -24,11 +24,3 @@ compare (x ∷ xs) (u ∷ us) ys vs e =
       | inl b ↦ inl (let f : u ∷ us ≡ (x ∷ xs) ++ b.more = cc (b.front) in record { more = b.more; front = f; rest = b.rest })
       | inr b ↦ inr (let f : x ∷ xs ≡ (u ∷ us) ++ b.first ∷ b.more = cc (b.front) in record { first = b.first; more = b.more; front = f; rest = b.rest })
     ]
-
-pub append-nil : {A : Type 0} (xs : List A) → xs ++ [] ≡ xs
-append-nil [] = refl
-append-nil (x ∷ xs) = ap (λ ys. x ∷ ys) (append-nil xs)
-
-pub append-assoc : {A : Type 0} (xs ys zs : List A) → (xs ++ ys) ++ zs ≡ xs ++ (ys ++ zs)
-append-assoc [] ys zs = refl
-append-assoc (x ∷ xs) ys zs = ap (λ l. x ∷ l) (append-assoc xs ys zs)

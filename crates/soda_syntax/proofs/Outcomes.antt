@@ -26,7 +26,7 @@ use Rattle.soda_formula.specs.declared.statement.ParamLine.{ParamLine}
 use Rattle.soda_formula.specs.declared.statement.Statement.{Statement}
 use Rattle.soda_formula.specs.declared.statement.Statement.TheVariants.{Kernel, BurstWidth, UnrollFactor, Iterate, Border, Cluster, Param}
 use Rattle.soda_syntax.specs.Grammar.{MayBeType, IsExtent, a_number, a_star}
-use Rattle.soda_syntax.specs.Machine.{step, steps, stage_of, declared_as, typed, headed, begun, declaring, untiled, tiled, more_sizes, more_items, more_offsets}
+use Rattle.soda_syntax.specs.machine.Steps.{step, steps, stage_of, declared_as, typed, headed, begun, declaring, untiled, tiled, more_sizes, more_items, more_offsets}
 use Rattle.soda_syntax.proofs.Running.{steps-none, some_not_none}
 use Rattle.soda_syntax.proofs.Words.{word_is}
 

@@ -1,11 +1,11 @@
 -- The steps of a statement, and that the tokens decide them.
-use Rattle.std.proofs.Common.{◌≡◌, inl, inr, List, [], ◌∷◌, ◌++◌, Option, Some, None, refl, sym, ◌∙◌, ap}
+use Rattle.std.proofs.Common.{◌≡◌, inl, inr, List, [], ◌∷◌, ◌++◌, Option, Some, None, refl, sym, ◌∙◌, ap, append-nil}
 use Rattle.soda_words.specs.declared.token.Placed.{Placed}
 use Rattle.soda_syntax.specs.declared.stage.LeftSide.{LeftSide}
 use Rattle.soda_syntax.specs.declared.stage.Stage.{Stage}
 use Rattle.soda_syntax.specs.declared.stage.Stage.TheVariants.{Start, Formula}
-use Rattle.soda_syntax.specs.Machine.{step, steps, then_step}
-use Rattle.soda_syntax.proofs.Lists.{compare, Beyond, append-nil}
+use Rattle.soda_syntax.specs.machine.Steps.{step, steps, then_step}
+use Rattle.soda_syntax.proofs.Lists.{compare, Beyond}
 
 pub steps-append : (o : Option Stage) (ts us : List Placed) → steps o (ts ++ us) ≡ steps (steps o ts) us
 steps-append o [] us = refl

@@ -1,18 +1,17 @@
 -- Statements one behind another, none of whose formulas is too large.
-use Rattle.std.proofs.Common.{◌≡◌, inl, inr, Bool, true, false, List, [], ◌∷◌, ◌++◌, length, drop, refl, sym, ◌∙◌, ap, subst, arith}
+use Rattle.std.proofs.Common.{◌≡◌, inl, inr, Bool, true, false, List, [], ◌∷◌, ◌++◌, length, drop, refl, sym, ◌∙◌, ap, subst, arith, append-nil, append_assoc}
 use Rattle.std.proofs.lemmas.List.{drop_all}
 use Rattle.soda_words.specs.declared.token.Placed.{Placed}
 use Rattle.soda_formula.specs.Reading.{IsLarge}
 use Rattle.soda_syntax.specs.declared.stage.Role.{Role}
 use Rattle.soda_syntax.specs.declared.stage.Role.TheVariants.{Parameter, Source, Middle, Target}
 use Rattle.soda_syntax.specs.Grammar.{IsStatement, AreStatements, no_statement, statement_before}
-use Rattle.soda_syntax.specs.Lines.{line_as}
+use Rattle.soda_syntax.specs.machine.Lines.{line_as}
 use Rattle.soda_formula.specs.Statements.{PlainFormulaLine, PlainStatement, local, output}
 use Rattle.soda_syntax.specs.SyntaxError.{IsHead, IsSyntax}
 use Rattle.soda_syntax.proofs.Chain.{Reads, reads_none, reads_more}
 use Rattle.soda_syntax.proofs.Complete.{complete}
 use Rattle.soda_syntax.proofs.Fronts.{no_large}
-use Rattle.soda_syntax.proofs.Lists.{append-nil, append-assoc}
 use Rattle.soda_syntax.proofs.Running.{one_head}
 use Rattle.soda_syntax.proofs.Standing.{BeginsStatement, finished_no_formula, name_ends}
 use Rattle.soda_syntax.proofs.Texts.{IsLargeLine, head_steps, nothing_begins, tail_begins}
@@ -31,7 +30,7 @@ pub formula_small : (head part : List Placed) → IsHead head → IsSmallFormula
 formula_small head part h small p y e large =
     let a = head_steps head h in
     let b = head_steps large.head large.left in
-    let whole : head ++ part ≡ large.head ++ (large.part ++ y) = e ∙ (ap (λ x. x ++ y) large.is ∙ append-assoc large.head large.part y) in
+    let whole : head ++ part ≡ large.head ++ (large.part ++ y) = e ∙ (ap (λ x. x ++ y) large.is ∙ append_assoc large.head large.part y) in
     let o = one_head head large.head part (large.part ++ y) a.0 b.0 whole a.1 b.1 in
     small large.part y o.1 large.large
 

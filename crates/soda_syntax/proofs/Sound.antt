@@ -1,5 +1,5 @@
 -- What the steps read is a statement of the grammar, or the head of one with a formula.
-use Rattle.std.proofs.Common.{◌≡◌, inl, inr, ℕ, ◌+◌, ◌≤◌, ◌<◌, List, [], ◌∷◌, ◌++◌, length, codes, Option, Some, None, ℤ, refl, sym, ◌∙◌, ap, subst, arith, length-append}
+use Rattle.std.proofs.Common.{◌≡◌, inl, inr, ℕ, ◌+◌, ◌≤◌, ◌<◌, List, [], ◌∷◌, ◌++◌, length, codes, Option, Some, None, ℤ, refl, sym, ◌∙◌, ap, subst, arith, length-append, append-nil, append_assoc}
 use Rattle.soda_words.specs.declared.symbol.Symbol.TheVariants.{OpenRound, CloseRound, OpenSquare, CloseSquare, MinusSign, Comma, Colon, EqualSign, Dot}
 use Rattle.soda_words.specs.declared.token.Placed.{Placed}
 use Rattle.soda_words.specs.declared.token.Word.{Word}
@@ -19,8 +19,7 @@ use Rattle.soda_formula.specs.declared.statement.Statement.{Statement}
 use Rattle.soda_formula.specs.declared.statement.Statement.TheVariants.{Param, Input}
 use Rattle.soda_formula.specs.Statements.{plain_statement}
 use Rattle.soda_syntax.specs.Grammar.{IsExtent, AreSizes, no_size, size_before, AreDotted, last_number, number_before, IsBank, no_bank, a_bank, MayBeType, IsTile, no_tile, a_tile, IsLeftSide, IsLocalHead, IsOutputHead, IsStatement, a_kernel, a_burst_width, an_unroll_factor, an_iterate, ignored_border, preserved_border, a_cluster, a_param, an_input}
-use Rattle.soda_syntax.specs.Machine.{declared_as, tiled, headed, more_sizes, more_items, more_offsets, left_side}
-use Rattle.soda_syntax.proofs.Lists.{append-nil, append-assoc}
+use Rattle.soda_syntax.specs.machine.Steps.{declared_as, tiled, headed, more_sizes, more_items, more_offsets, left_side}
 use Rattle.soda_syntax.proofs.Running.{some_not_none}
 use Rattle.soda_syntax.proofs.Outcomes.{Outcome, ends, lines, runs, goes, finished, formula_at, TakesSymbol, TakesNumber, TakesName, TakesType, colon_taken, type_colon_taken, name_taken, type_taken, dram_number_taken, bank_more_taken, size_taken, size_close_taken, sizes_taken, tile_taken, item_taken, item_more_taken, offsets_taken, component_taken, magnitude_taken, component_more_taken, equals_taken, Valued, name_value, width_value, factor_value, times_value, ignored_value, preserved_value, group_value, value_taken, Begun, kernel_word, burst_word, unroll_word, iterate_word, border_word, cluster_word, param_word, input_word, local_word, output_word, first_taken, second_taken, factor_taken, bank_taken}
 
@@ -168,7 +167,7 @@ one_size opened line n closed p ts out s =
       sizes = record { line = line; value = n } ∷ s.sizes;
       are = size_before opened line n closed s.are;
       few = omega (arith, length-append p.sizes (record { line = line; value = n } ∷ []), s.few);
-      out_is = ap (λ ss. ends (Param (record { ty = p.ty; name = p.name; sizes = ss }))) (sym (append-assoc p.sizes (record { line = line; value = n } ∷ []) s.sizes)) ∙ s.out_is;
+      out_is = ap (λ ss. ends (Param (record { ty = p.ty; name = p.name; sizes = ss }))) (sym (append_assoc p.sizes (record { line = line; value = n } ∷ []) s.sizes)) ∙ s.out_is;
     }
 
 sizes_sound : (ts : List Placed) → SizesSound ts
@@ -215,7 +214,7 @@ tile_sound (p ∷ q ∷ ts) d out e =
             items = i.0 ∷ b.items;
             is = is;
             parted = item_before t.line i.1 b.parted;
-            out_is = ap (λ es. ends (tiled (record { ty = d.ty; name = d.name; items = es }))) (sym (append-assoc d.items (i.0 ∷ []) b.items)) ∙ b.out_is;
+            out_is = ap (λ es. ends (tiled (record { ty = d.ty; name = d.name; items = es }))) (sym (append_assoc d.items (i.0 ∷ []) b.items)) ∙ b.out_is;
           })
       | inr t ↦
           (let f : (ts ≡ []) × (ends (tiled (more_items d i.0)) ≡ out) = finished (tiled (more_items d i.0)) ts out t.on in
@@ -271,9 +270,9 @@ sides_sound (q ∷ ts) =
                   closed = b.closed;
                   equals = b.equals;
                   offsets = o ∷ b.offsets;
-                  is = ap (λ x. us ++ x) tail ∙ sym (append-assoc us (symbol_on t.line Comma ∷ b.inside) (symbol_on b.closed CloseRound ∷ symbol_on b.equals EqualSign ∷ []));
+                  is = ap (λ x. us ++ x) tail ∙ sym (append_assoc us (symbol_on t.line Comma ∷ b.inside) (symbol_on b.closed CloseRound ∷ symbol_on b.equals EqualSign ∷ []));
                   parted = item_before t.line c b.parted;
-                  out_is = ap (λ os. lines (record { role = l.role; ty = l.ty; name = l.name; offsets = os })) (sym (append-assoc l.offsets (o ∷ []) b.offsets)) ∙ b.out_is;
+                  out_is = ap (λ os. lines (record { role = l.role; ty = l.ty; name = l.name; offsets = os })) (sym (append_assoc l.offsets (o ∷ []) b.offsets)) ∙ b.out_is;
                 })
             | inr t ↦
                 (let b : (equals : ℕ) × (ts ≡ symbol_on equals EqualSign ∷ []) × (lines (more_offsets l o) ≡ out) = equals_sound (more_offsets l o) ts out t.on in
@@ -296,7 +295,7 @@ opened_sound r ts out ty name colon [] is may e = none_ends e
 opened_sound r ts out ty name colon (p ∷ rest) is may e =
     let t : TakesSymbol OpenRound p (Component (left_side r ty name)) rest out = offsets_taken p.line rest out (left_side r ty name) p.token e in
     let s : IsSided (left_side r ty name) rest out = (sides_sound rest).0 (left_side r ty name) out t.on in
-    let parts : rest ≡ (s.inside ++ symbol_on s.closed CloseRound ∷ []) ++ symbol_on s.equals EqualSign ∷ [] = s.is ∙ sym (append-assoc s.inside (symbol_on s.closed CloseRound ∷ []) (symbol_on s.equals EqualSign ∷ [])) in
+    let parts : rest ≡ (s.inside ++ symbol_on s.closed CloseRound ∷ []) ++ symbol_on s.equals EqualSign ∷ [] = s.is ∙ sym (append_assoc s.inside (symbol_on s.closed CloseRound ∷ []) (symbol_on s.equals EqualSign ∷ [])) in
     let whole : ts ≡ word_on ty ∷ symbol_on colon Colon ∷ word_on name ∷ ((symbol_on t.line OpenRound ∷ (s.inside ++ symbol_on s.closed CloseRound ∷ [])) ++ symbol_on s.equals EqualSign ∷ []) = cc (t.is, parts, is) in
     record {
       ty = ty;

@@ -1,5 +1,5 @@
 -- How tokens begin a statement: where the steps stand behind them, and which token they refuse.
-use Rattle.std.proofs.Common.{◌≡◌, inl, inr, ℕ, List, [], ◌∷◌, ◌++◌, Option, Some, None, refl, sym, ◌∙◌, ap, subst}
+use Rattle.std.proofs.Common.{◌≡◌, inl, inr, ℕ, List, [], ◌∷◌, ◌++◌, Option, Some, None, refl, sym, ◌∙◌, ap, subst, append-nil, append_assoc}
 use Rattle.soda_words.specs.declared.token.Placed.{Placed}
 use Rattle.soda_formula.specs.Terms.{literal}
 use Rattle.soda_formula.specs.Grammar.{name_on, number_on, IsFormula, a_literal, tighter}
@@ -10,10 +10,10 @@ use Rattle.soda_syntax.specs.declared.stage.Stage.TheVariants.{Start, Finished, 
 use Rattle.soda_formula.specs.declared.statement.Statement.{Statement}
 use Rattle.soda_formula.specs.Statements.{PlainStatement}
 use Rattle.soda_syntax.specs.Grammar.{IsStatement, a_kernel, a_burst_width, an_unroll_factor, an_iterate, ignored_border, preserved_border, a_cluster, a_param, an_input, a_local, an_output}
-use Rattle.soda_syntax.specs.Pieces.{left_of}
-use Rattle.soda_syntax.specs.Machine.{step, steps, stage_of, finish}
-use Rattle.soda_formula.proofs.Laws.{name_ends_formula}
-use Rattle.soda_syntax.proofs.Lists.{compare, append-nil, append-assoc}
+use Rattle.soda_syntax.specs.machine.Pieces.{left_of}
+use Rattle.soda_syntax.specs.machine.Steps.{step, steps, stage_of, finish}
+use Rattle.soda_formula.proofs.CallerLemmas.{name_ends_formula}
+use Rattle.soda_syntax.proofs.Lists.{compare}
 use Rattle.soda_syntax.proofs.Running.{steps-append, steps-none, steps-formula, steps-front, some_not_none, one_head}
 use Rattle.soda_syntax.proofs.Complete.{complete}
 use Rattle.soda_syntax.proofs.Outcomes.{ends, outcome}
@@ -105,9 +105,9 @@ head_stuck ts t s e nf r (in_formula head part l is f b) =
 
 formula_stuck : (ts : List Placed) (t : Placed) (head part : List Placed) (l : LeftSide) → ts ≡ head ++ part → steps (Some Start) head ≡ Some (Formula l) → (BeginsFormula (part ++ t ∷ []) → ⊥) → Stands (ts ++ t ∷ []) → ⊥
 formula_stuck ts t head part l is e nb (in_head x f g) =
-    no_steps l part t x (sym (ap (λ o. steps o (part ++ t ∷ [])) e) ∙ (sym (steps-append (Some Start) head (part ++ t ∷ [])) ∙ (ap (steps (Some Start)) (sym (append-assoc head part (t ∷ []))) ∙ (ap (λ y. steps (Some Start) (y ++ t ∷ [])) (sym is) ∙ f))))
+    no_steps l part t x (sym (ap (λ o. steps o (part ++ t ∷ [])) e) ∙ (sym (steps-append (Some Start) head (part ++ t ∷ [])) ∙ (ap (steps (Some Start)) (sym (append_assoc head part (t ∷ []))) ∙ (ap (λ y. steps (Some Start) (y ++ t ∷ [])) (sym is) ∙ f))))
 formula_stuck ts t head part l is e nb (in_formula h p m js f b) =
-    let both : head ++ (part ++ t ∷ []) ≡ h ++ p = sym (append-assoc head part (t ∷ [])) ∙ (ap (λ y. y ++ t ∷ []) (sym is) ∙ js) in
+    let both : head ++ (part ++ t ∷ []) ≡ h ++ p = sym (append_assoc head part (t ∷ [])) ∙ (ap (λ y. y ++ t ∷ []) (sym is) ∙ js) in
     let o : (head ≡ h) × (part ++ t ∷ [] ≡ p) × (l ≡ m) = one_head head h (part ++ t ∷ []) p l m both e f in
     nb (subst BeginsFormula (sym o.1) b)
 

@@ -1,5 +1,5 @@
 -- How statements stand one behind another: what one that is read says of a text.
-use Rattle.std.proofs.Common.{◌≡◌, ◌⊎◌, inl, inr, List, [], ◌∷◌, ◌++◌, Some, refl, sym, ◌∙◌, ap, subst}
+use Rattle.std.proofs.Common.{◌≡◌, ◌⊎◌, inl, inr, List, [], ◌∷◌, ◌++◌, Some, refl, sym, ◌∙◌, ap, subst, append-nil, append_assoc}
 use Rattle.soda_words.specs.declared.token.Placed.{Placed}
 use Rattle.soda_formula.specs.Reading.{BeginsFormula, IsLarge}
 use Rattle.soda_syntax.specs.declared.stage.LeftSide.{LeftSide}
@@ -7,8 +7,8 @@ use Rattle.soda_syntax.specs.declared.stage.Stage.TheVariants.{Start, Formula}
 use Rattle.soda_formula.specs.Statements.{PlainStatement}
 use Rattle.soda_syntax.specs.Grammar.{IsStatement, AreStatements, no_statement, statement_before}
 use Rattle.soda_syntax.specs.SyntaxError.{BeginsText, IsHead, EndsInFormula, IsTooLarge}
-use Rattle.soda_syntax.specs.Machine.{steps}
-use Rattle.soda_syntax.proofs.Lists.{compare, append-nil, append-assoc}
+use Rattle.soda_syntax.specs.machine.Steps.{steps}
+use Rattle.soda_syntax.proofs.Lists.{compare}
 use Rattle.soda_syntax.proofs.Complete.{local_read, output_read}
 use Rattle.soda_syntax.proofs.Standing.{BeginsStatement, first_name, name_ends}
 use Rattle.soda_syntax.proofs.Completions.{formula_begins, head_begins}
@@ -47,7 +47,7 @@ pub no_empty : {s : PlainStatement} → IsStatement [] s → ⊥
 no_empty is = let n = first_name is in cc (n.3)
 
 pub begins_front : (xs ys : List Placed) → BeginsStatement (xs ++ ys) → BeginsStatement xs
-begins_front xs ys (rest, s, is) = (ys ++ rest, s, subst (λ x. IsStatement x s) (append-assoc xs ys rest) is)
+begins_front xs ys (rest, s, is) = (ys ++ rest, s, subst (λ x. IsStatement x s) (append_assoc xs ys rest) is)
 
 pub whole_begins : {ts : List Placed} {s : PlainStatement} → IsStatement ts s → BeginsStatement ts
 whole_begins {ts} {s} is = ([], s, subst (λ x. IsStatement x s) (sym (append-nil ts)) is)
@@ -57,7 +57,7 @@ nothing_begins = head_begins [] Start refl
 
 -- one more token of a front
 pub one_more : (xs : List Placed) (u : Placed) (z : List Placed) → BeginsStatement (xs ++ u ∷ z) → BeginsStatement (xs ++ u ∷ [])
-one_more xs u z b = begins_front (xs ++ u ∷ []) z (subst BeginsStatement (sym (append-assoc xs (u ∷ []) z)) b)
+one_more xs u z b = begins_front (xs ++ u ∷ []) z (subst BeginsStatement (sym (append_assoc xs (u ∷ []) z)) b)
 
 -- what stands behind whole statements begins with a token that begins a statement
 pub tail_begins : {us : List Placed} {ss : List PlainStatement} (x : List Placed) (u : Placed) (z : List Placed) → AreStatements us ss → BeginsStatement x → us ++ x ≡ u ∷ z → BeginsStatement (u ∷ [])
@@ -83,12 +83,12 @@ parts_of_begun ts b = record { before = []; statements = []; tail = ts; is = ref
 statements_snoc : {ts us : List Placed} {ss : List PlainStatement} {s : PlainStatement} → AreStatements ts ss → IsStatement us s → AreStatements (ts ++ us) (ss ++ s ∷ [])
 statements_snoc {us = us} {s = s} no_statement st = subst (λ x. AreStatements x (s ∷ [])) (append-nil us) (statement_before st no_statement)
 statements_snoc {us = vs} {s = r} (statement_before {ts} {us} {s} {ss} first more) st =
-    subst (λ x. AreStatements x (s ∷ (ss ++ r ∷ []))) (sym (append-assoc ts us vs)) (statement_before first (statements_snoc more st))
+    subst (λ x. AreStatements x (s ∷ (ss ++ r ∷ []))) (sym (append_assoc ts us vs)) (statement_before first (statements_snoc more st))
 
 pub parts_text : (ts : List Placed) → Parts ts → BeginsText ts
 parts_text ts p =
     let b : BeginsStatement p.tail = p.begun in
-    (b.0, p.statements ++ b.1 ∷ [], subst (λ x. AreStatements x (p.statements ++ b.1 ∷ [])) (sym (append-assoc p.before p.tail b.0) ∙ ap (λ x. x ++ b.0) (sym p.is)) (statements_snoc p.whole b.2))
+    (b.0, p.statements ++ b.1 ∷ [], subst (λ x. AreStatements x (p.statements ++ b.1 ∷ [])) (sym (append_assoc p.before p.tail b.0) ∙ ap (λ x. x ++ b.0) (sym p.is)) (statements_snoc p.whole b.2))
 
 pub parts_before : {a : List Placed} {s : PlainStatement} (w : List Placed) → IsStatement a s → Parts w → Parts (a ++ w)
 parts_before {a} {s} w st p =
@@ -96,7 +96,7 @@ parts_before {a} {s} w st p =
       before = a ++ p.before;
       statements = s ∷ p.statements;
       tail = p.tail;
-      is = ap (λ x. a ++ x) p.is ∙ sym (append-assoc a p.before p.tail);
+      is = ap (λ x. a ++ x) p.is ∙ sym (append_assoc a p.before p.tail);
       whole = statement_before st p.whole;
       begun = p.begun;
     }
@@ -125,7 +125,7 @@ pub cut : {front rest : List Placed} {s : PlainStatement} → IsRead front rest 
 cut {front} r [] y e no_statement x b eq = inl (refl, refl, sym eq ∙ append-nil front)
 cut {front} r (u ∷ z) y e no_statement x b eq = absurd (r.ended u (z ++ y) e (one_more front u z (subst BeginsStatement (sym eq) b)))
 cut {front} {rest} r w y e (statement_before {ts} {us} {s} {ss} st more) x b eq =
-    elim (compare front ts w (us ++ x) (eq ∙ append-assoc ts us x)) [
+    elim (compare front ts w (us ++ x) (eq ∙ append_assoc ts us x)) [
       | inl k ↦ beyond k.more k.front k.rest
       | inr k ↦ absurd (name_ends k.first st (tail_begins x k.first (k.more ++ w) more b k.rest) (one_more ts k.first k.more (subst BeginsStatement k.front (whole_begins r.whole))))
     ]
@@ -172,7 +172,7 @@ large_up {front} {s} st w l =
         before = front ++ p.before;
         statements = s ∷ p.statements;
         head = p.head;
-        is = ap (λ x. front ++ x) p.is ∙ sym (append-assoc front p.before (p.head ++ l.part));
+        is = ap (λ x. front ++ x) p.is ∙ sym (append_assoc front p.before (p.head ++ l.part));
         whole = statement_before st p.whole;
         left = p.left;
         begun = p.begun;
@@ -207,4 +207,4 @@ inside_small ts b small l = by l.within.whole l.within.is
         split : (z : List Placed) → us ++ (l.within.head ++ l.part) ≡ z → ⊥
         split [] f = nonempty us [] f refl
         split (u ∷ z) f =
-            name_ends u st (tail_begins (l.within.head ++ l.part) u z more (line_begins l.within.head l.part l.within.left l.within.begun) f) (one_more a u z (subst BeginsStatement (e ∙ (append-assoc a us (l.within.head ++ l.part) ∙ ap (λ x. a ++ x) f)) b))
+            name_ends u st (tail_begins (l.within.head ++ l.part) u z more (line_begins l.within.head l.part l.within.left l.within.begun) f) (one_more a u z (subst BeginsStatement (e ∙ (append_assoc a us (l.within.head ++ l.part) ∙ ap (λ x. a ++ x) f)) b))

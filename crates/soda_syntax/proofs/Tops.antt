@@ -1,5 +1,5 @@
 -- Statements read one behind another from the front of tokens, as the loop reads them.
-use Rattle.std.proofs.Common.{◌≡◌, inl, inr, ℕ, zero, suc, ◌+◌, ◌≤◌, ◌<◌, List, [], ◌∷◌, ◌++◌, length, take, drop, map, Option, Some, None, refl, sym, ◌∙◌, ap, subst, arith, length-append, length-drop, append_assoc}
+use Rattle.std.proofs.Common.{◌≡◌, inl, inr, ℕ, zero, suc, ◌+◌, ◌≤◌, ◌<◌, List, [], ◌∷◌, ◌++◌, length, take, drop, map, Option, Some, None, refl, sym, ◌∙◌, ap, subst, arith, length-append, length-drop, append_assoc, append-nil}
 use Rattle.std.specs.Prelude.{slice_get, MatchOption}
 use Rattle.std.proofs.Math.Seq.{take-append_seam}
 use Rattle.std.proofs.lemmas.List.{take-append-drop, take-append-le, map-append, drop_all}
@@ -8,9 +8,8 @@ use Rattle.soda_formula.specs.declared.statement.Statement.{Statement}
 use Rattle.soda_formula.specs.Statements.{PlainStatement, plain_statement}
 use Rattle.soda_syntax.specs.Grammar.{AreStatements}
 use Rattle.soda_syntax.specs.SyntaxError.{IsHead, IsTooLarge, IsGoodStart, IsGoodUpTo, IsSyntax}
-use Rattle.soda_syntax.specs.Refusals.{IsRefusedIn}
-use Rattle.soda_syntax.specs.Pieces.{ReadsStatement, StopsStatement}
-use Rattle.soda_syntax.proofs.Lists.{append-nil}
+use Rattle.soda_syntax.specs.machine.Refusals.{IsRefusedIn}
+use Rattle.soda_syntax.specs.machine.Pieces.{ReadsStatement, StopsStatement}
 use Rattle.soda_syntax.proofs.Takes.{drop_add, drop_none_short}
 use Rattle.soda_syntax.proofs.Texts.{parts_text, no_empty, nothing_begins, no_empty_head, inside_small}
 use Rattle.soda_syntax.proofs.Chain.{Reads, reads_none, reads_snoc, IsStop, Shrunk, shrink, IsGood, IsPast, fronts, good_front, wrong_front, no_end, all_read, large_last}

@@ -5,9 +5,9 @@ use Rattle.soda_formula.specs.Grammar.{IsFormula}
 use Rattle.soda_syntax.specs.declared.stage.Stage.TheVariants.{Start, Formula}
 use Rattle.soda_formula.specs.Statements.{PlainStatement, plain_statement}
 use Rattle.soda_syntax.specs.Grammar.{IsStatement}
-use Rattle.soda_syntax.specs.Lines.{line_of}
-use Rattle.soda_syntax.specs.Machine.{steps, finish}
-use Rattle.soda_formula.proofs.Laws.{formula_is_one, formula_is_some}
+use Rattle.soda_syntax.specs.machine.Lines.{line_of}
+use Rattle.soda_syntax.specs.machine.Steps.{steps, finish}
+use Rattle.soda_formula.proofs.CallerLemmas.{formula_is_one, formula_is_some}
 use Rattle.soda_syntax.proofs.Running.{steps-append, steps-formula, some_not_none, one_head}
 use Rattle.soda_syntax.proofs.Complete.{IsPlain, IsLined, complete}
 

@@ -17,8 +17,8 @@ use Rattle.soda_syntax.specs.declared.stage.Stage.{Stage}
 use Rattle.soda_syntax.specs.declared.stage.Stage.TheVariants.{Start, WidthWord, FactorWord, SettingColon, SettingValue, Finished, BankOrType, BankNumber, BankMore, TypeWord, RoleColon, RoleName, Sizes, SizeNumber, SizeClose, TileOrEnd, TileItem, TileMore, OffsetsOpen, Component, Magnitude, ComponentMore, Equals, Formula}
 use Rattle.soda_formula.specs.declared.statement.Statement.{Statement}
 use Rattle.soda_formula.specs.Statements.{plain_statement}
-use Rattle.soda_syntax.specs.Machine.{step, steps, stage_of, finish, begun, after_colon}
-use Rattle.soda_syntax.specs.Pieces.{left_of, IsAt, ReadsStatement, StopsStatement}
+use Rattle.soda_syntax.specs.machine.Steps.{step, steps, stage_of, finish, begun, after_colon}
+use Rattle.soda_syntax.specs.machine.Pieces.{left_of, IsAt, ReadsStatement, StopsStatement}
 use Rattle.soda_syntax.proofs.Running.{steps-append}
 
 pub goes_on : (ts : List Placed) (at : ℕ) (stage next : Stage) (t : Placed) → at < length ts → t ≡ get_or ts at t → steps (Some Start) (take at ts) ≡ Some stage → Goes next ≡ step stage t → steps (Some Start) (take (at + 1) ts) ≡ Some next

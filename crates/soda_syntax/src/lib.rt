@@ -7,8 +7,6 @@ mod reading;
 mod stage;
 mod steps;
 mod stop;
-#[cfg(test)]
-mod tests;
 
 pub use grammar_laws::statements_are_one;
 pub use reading::{SyntaxFail, read_statements};

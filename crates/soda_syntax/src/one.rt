@@ -1,9 +1,9 @@
 ghost use Rattle.std.specs.Prelude.{◌≡◌, ◌≤◌, IfOk, length, take, Some};
 ghost use Rattle.soda_formula.specs.Tree.{term_of};
-ghost use Rattle.soda_syntax.specs.Fails.{IfStopped};
-ghost use Rattle.soda_syntax.specs.Lines.{line_of};
-ghost use Rattle.soda_syntax.specs.Machine.{steps};
-ghost use Rattle.soda_syntax.specs.Pieces.{ReadsStatement, StopsStatement};
+ghost use Rattle.soda_syntax.specs.machine.Stops.{IfStopped};
+ghost use Rattle.soda_syntax.specs.machine.Lines.{line_of};
+ghost use Rattle.soda_syntax.specs.machine.Steps.{steps};
+ghost use Rattle.soda_syntax.specs.machine.Pieces.{ReadsStatement, StopsStatement};
 ghost use Rattle.soda_formula.specs.Statements.{plain_statement};
 ghost use Rattle.soda_syntax.specs.declared.stage.Stage.TheVariants.{Start, Formula};
 
@@ -44,8 +44,14 @@ fn read_line(
 {
     match read_formula(alloc, &tokens[at..]) {
         Ok((formula, size)) => Ok((line(left, formula), at + size)),
-        Err(FormulaFail::Wrong(size)) => Err(Stop::Wrong(at + size)),
-        Err(FormulaFail::Memory) => Err(Stop::Memory),
+        Err(FormulaFail::Wrong(size)) => {
+            drop(left);
+            Err(Stop::Wrong(at + size))
+        }
+        Err(FormulaFail::Memory) => {
+            drop(left);
+            Err(Stop::Memory)
+        }
     }
 }
 

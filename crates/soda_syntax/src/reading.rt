@@ -1,15 +1,16 @@
 ghost use Rattle.std.specs.Prelude.{◌≡◌, IfOk, map, MatchOption, slice_get};
 ghost use Rattle.soda_syntax.specs.Fails.{IfRefused};
-ghost use Rattle.soda_syntax.specs.Refusals.{IsRefusedIn};
+ghost use Rattle.soda_syntax.specs.machine.Refusals.{IsRefusedIn};
 ghost use Rattle.soda_formula.specs.Statements.{plain_statement};
 ghost use Rattle.soda_syntax.specs.SyntaxError.{IsSyntax, IsSyntaxError};
 ghost use Rattle.soda_words.specs.Tokens.{tokens_of};
 
+use crate::NoMemory;
 use crate::one::read_statement;
 use crate::stop::Stop;
 use soda_formula::Statement;
 use soda_words::{Placed, end_line, tokens};
-use std::alloc::{AllocError, AllocFailed, Global};
+use std::alloc::{AllocFailed, Global};
 use thiserror::Error;
 
 /// Why no statements were read.
@@ -24,13 +25,13 @@ pub enum SyntaxFail {
     Memory,
 }
 
-impl From<AllocError> for SyntaxFail {
+impl From<NoMemory> for SyntaxFail {
     ghost use Rattle.std.specs.Prelude.{◌≡◌};
     ghost use Rattle.soda_syntax.specs.declared.reading.SyntaxFail.{SyntaxFail};
 
     ghost from_gives = { λ _ fail. fail ≡ SyntaxFail.Memory };
 
-    fn from(_error: AllocError) -> Self {
+    fn from(_error: NoMemory) -> Self {
         SyntaxFail::Memory
     }
 }
@@ -71,9 +72,13 @@ fn read_tokens(alloc: Global, tokens: &[Placed], end: u64) -> Result<Vec<Stateme
             }
             Err(stop) => match stop {
                 Stop::Wrong(size) => {
+                    drop(found);
                     return Err(SyntaxFail::Refused(line_at(tokens, at + size, end)));
                 }
-                Stop::Memory => return Err(SyntaxFail::Memory),
+                Stop::Memory => {
+                    drop(found);
+                    return Err(SyntaxFail::Memory);
+                }
             },
         }
     }

@@ -1,16 +1,14 @@
 ghost use Rattle.std.specs.Prelude.{◌≡◌, IfOk};
-ghost use Rattle.soda_syntax.specs.Machine.{headed, declaring, begun, after_nothing, after_burst, after_unroll, after_heading, edge_value, named_value, number_value, after_colon, typed, at_type, at_bank, after_dram, after_bank_number, after_type, declared_as, at_name, after_sizes, more_sizes, at_size, after_size, untiled, tiled, after_input, more_items, at_item, after_item, at_offsets, more_offsets, at_component, at_magnitude, after_component, at_equals, step, finish};
+ghost use Rattle.soda_syntax.specs.machine.Steps.{headed, declaring, begun, after_nothing, after_burst, after_unroll, after_heading, edge_value, named_value, number_value, after_colon, typed, at_type, at_bank, after_dram, after_bank_number, after_type, declared_as, at_name, after_sizes, more_sizes, at_size, after_size, untiled, tiled, after_input, more_items, at_item, after_item, at_offsets, more_offsets, at_component, at_magnitude, after_component, at_equals, step, finish};
 
+use crate::NoMemory;
 use crate::stage::{Heading, LeftSide, Next, Role, Setting, Stage, TileSoFar};
 use soda_formula::{Extent, InputLine, ParamLine, Size, Statement};
-use soda_words::{Placed, Symbol, Token, Word, is_word};
+use soda_words::{MOST_SIZES, Placed, Symbol, Token, Word, is_word};
 use sqlite_items::Items;
-use std::alloc::{AllocError, Global};
+use std::alloc::Global;
 
-/// The most sizes of a param.
-const MOST_SIZES: usize = 2;
-
-fn word(alloc: Global, line: u64, text: &[u8]) -> Result<Word, AllocError>
+fn word(alloc: Global, line: u64, text: &[u8]) -> Result<Word, NoMemory>
     ensures { IfOk result (λ word. word ≡ record { line = line; text = text.now }) }
 {
     Ok(Word {
@@ -127,7 +125,7 @@ fn edge_value(line: u64, text: &[u8]) -> Next
     }
 }
 
-fn named_value(alloc: Global, setting: Setting, line: u64, text: &[u8]) -> Result<Next, AllocError>
+fn named_value(alloc: Global, setting: Setting, line: u64, text: &[u8]) -> Result<Next, NoMemory>
     ensures { IfOk result (λ next. next ≡ named_value setting line text.now) }
 {
     Ok(match setting {
@@ -161,7 +159,7 @@ fn number_value(setting: Setting, line: u64, number: u64) -> Next
     }
 }
 
-fn after_colon(alloc: Global, heading: Heading, token: &Token) -> Result<Next, AllocError>
+fn after_colon(alloc: Global, heading: Heading, token: &Token) -> Result<Next, NoMemory>
     ensures { IfOk result (λ next. next ≡ after_colon heading token.now) }
 {
     match token {
@@ -171,13 +169,13 @@ fn after_colon(alloc: Global, heading: Heading, token: &Token) -> Result<Next, A
     }
 }
 
-fn typed(alloc: Global, role: Role, line: u64, text: &[u8]) -> Result<Next, AllocError>
+fn typed(alloc: Global, role: Role, line: u64, text: &[u8]) -> Result<Next, NoMemory>
     ensures { IfOk result (λ next. next ≡ typed role line text.now) }
 {
     Ok(Next::Goes(Stage::RoleColon(role, word(alloc, line, text)?)))
 }
 
-fn at_type(alloc: Global, role: Role, line: u64, token: &Token) -> Result<Next, AllocError>
+fn at_type(alloc: Global, role: Role, line: u64, token: &Token) -> Result<Next, NoMemory>
     ensures { IfOk result (λ next. next ≡ at_type role line token.now) }
 {
     match token {
@@ -192,7 +190,7 @@ fn at_type(alloc: Global, role: Role, line: u64, token: &Token) -> Result<Next, 
     }
 }
 
-fn at_bank(alloc: Global, role: Role, line: u64, token: &Token) -> Result<Next, AllocError>
+fn at_bank(alloc: Global, role: Role, line: u64, token: &Token) -> Result<Next, NoMemory>
     ensures { IfOk result (λ next. next ≡ at_bank role line token.now) }
 {
     match token {
@@ -216,12 +214,7 @@ fn after_dram(role: Role, token: &Token) -> Next
     }
 }
 
-fn after_bank_number(
-    alloc: Global,
-    role: Role,
-    line: u64,
-    token: &Token,
-) -> Result<Next, AllocError>
+fn after_bank_number(alloc: Global, role: Role, line: u64, token: &Token) -> Result<Next, NoMemory>
     ensures { IfOk result (λ next. next ≡ after_bank_number role line token.now) }
 {
     match token {
@@ -235,7 +228,10 @@ fn after_type(role: Role, ty: Word, token: &Token) -> Next
 {
     match token {
         Token::Sign(Symbol::Colon) => Next::Goes(Stage::RoleName(role, ty)),
-        _ => Next::Wrong,
+        _ => {
+            drop(ty);
+            Next::Wrong
+        }
     }
 }
 
@@ -262,13 +258,7 @@ fn declared_as(alloc: Global, role: Role, ty: Word, name: Word) -> Stage
     }
 }
 
-fn at_name(
-    alloc: Global,
-    role: Role,
-    ty: Word,
-    line: u64,
-    token: &Token,
-) -> Result<Next, AllocError>
+fn at_name(alloc: Global, role: Role, ty: Word, line: u64, token: &Token) -> Result<Next, NoMemory>
     ensures { IfOk result (λ next. next ≡ at_name role ty line token.now) }
 {
     match token {
@@ -276,7 +266,10 @@ fn at_name(
             let name = word(alloc, line, text.as_slice())?;
             Ok(Next::Goes(declared_as(alloc, role, ty, name)))
         }
-        _ => Ok(Next::Wrong),
+        _ => {
+            drop(ty);
+            Ok(Next::Wrong)
+        }
     }
 }
 
@@ -295,14 +288,14 @@ fn after_sizes(param: ParamLine, token: &Token) -> Next
     }
 }
 
-fn more_sizes(mut param: ParamLine, line: u64, value: u64) -> Result<ParamLine, AllocError>
+fn more_sizes(mut param: ParamLine, line: u64, value: u64) -> Result<ParamLine, NoMemory>
     ensures { IfOk result (λ param'. param' ≡ more_sizes param line value) }
 {
     param.sizes.push(Size { line, value })?;
     Ok(param)
 }
 
-fn at_size(param: ParamLine, line: u64, token: &Token) -> Result<Next, AllocError>
+fn at_size(param: ParamLine, line: u64, token: &Token) -> Result<Next, NoMemory>
     ensures { IfOk result (λ next. next ≡ at_size param line token.now) }
 {
     match token {
@@ -310,7 +303,10 @@ fn at_size(param: ParamLine, line: u64, token: &Token) -> Result<Next, AllocErro
             let param = more_sizes(param, line, *size)?;
             Ok(Next::Goes(Stage::SizeClose(param)))
         }
-        _ => Ok(Next::Wrong),
+        _ => {
+            drop(param);
+            Ok(Next::Wrong)
+        }
     }
 }
 
@@ -319,7 +315,10 @@ fn after_size(param: ParamLine, token: &Token) -> Next
 {
     match token {
         Token::Sign(Symbol::CloseSquare) => Next::Goes(Stage::Sizes(param)),
-        _ => Next::Wrong,
+        _ => {
+            drop(param);
+            Next::Wrong
+        }
     }
 }
 
@@ -352,20 +351,23 @@ fn after_input(input: TileSoFar, token: &Token) -> Next
     }
 }
 
-fn more_items(mut input: TileSoFar, item: Extent) -> Result<TileSoFar, AllocError>
+fn more_items(mut input: TileSoFar, item: Extent) -> Result<TileSoFar, NoMemory>
     ensures { IfOk result (λ input'. input' ≡ more_items input item) }
 {
     input.items.push(item)?;
     Ok(input)
 }
 
-fn at_item(input: TileSoFar, token: &Token) -> Result<Next, AllocError>
+fn at_item(input: TileSoFar, token: &Token) -> Result<Next, NoMemory>
     ensures { IfOk result (λ next. next ≡ at_item input token.now) }
 {
     let item = match token {
         Token::Number(extent) => Extent::Fixed(*extent),
         Token::Sign(Symbol::Star) => Extent::Open,
-        _ => return Ok(Next::Wrong),
+        _ => {
+            drop(input);
+            return Ok(Next::Wrong);
+        }
     };
     let input = more_items(input, item)?;
     Ok(Next::Goes(Stage::TileMore(input)))
@@ -377,7 +379,10 @@ fn after_item(input: TileSoFar, token: &Token) -> Next
     match token {
         Token::Sign(Symbol::Comma) => Next::Goes(Stage::TileItem(input)),
         Token::Sign(Symbol::CloseRound) => Next::Goes(Stage::Finished(tiled(input))),
-        _ => Next::Wrong,
+        _ => {
+            drop(input);
+            Next::Wrong
+        }
     }
 }
 
@@ -386,18 +391,21 @@ fn at_offsets(left: LeftSide, token: &Token) -> Next
 {
     match token {
         Token::Sign(Symbol::OpenRound) => Next::Goes(Stage::Component(left)),
-        _ => Next::Wrong,
+        _ => {
+            drop(left);
+            Next::Wrong
+        }
     }
 }
 
-fn more_offsets(mut left: LeftSide, offset: i128) -> Result<LeftSide, AllocError>
+fn more_offsets(mut left: LeftSide, offset: i128) -> Result<LeftSide, NoMemory>
     ensures { IfOk result (λ left'. left' ≡ more_offsets left offset) }
 {
     left.offsets.push(offset)?;
     Ok(left)
 }
 
-fn at_component(left: LeftSide, token: &Token) -> Result<Next, AllocError>
+fn at_component(left: LeftSide, token: &Token) -> Result<Next, NoMemory>
     ensures { IfOk result (λ next. next ≡ at_component left token.now) }
 {
     match token {
@@ -406,11 +414,14 @@ fn at_component(left: LeftSide, token: &Token) -> Result<Next, AllocError>
             Ok(Next::Goes(Stage::ComponentMore(left)))
         }
         Token::Sign(Symbol::MinusSign) => Ok(Next::Goes(Stage::Magnitude(left))),
-        _ => Ok(Next::Wrong),
+        _ => {
+            drop(left);
+            Ok(Next::Wrong)
+        }
     }
 }
 
-fn at_magnitude(left: LeftSide, token: &Token) -> Result<Next, AllocError>
+fn at_magnitude(left: LeftSide, token: &Token) -> Result<Next, NoMemory>
     ensures { IfOk result (λ next. next ≡ at_magnitude left token.now) }
 {
     match token {
@@ -418,7 +429,10 @@ fn at_magnitude(left: LeftSide, token: &Token) -> Result<Next, AllocError>
             let left = more_offsets(left, -i128::from(*number))?;
             Ok(Next::Goes(Stage::ComponentMore(left)))
         }
-        _ => Ok(Next::Wrong),
+        _ => {
+            drop(left);
+            Ok(Next::Wrong)
+        }
     }
 }
 
@@ -428,7 +442,10 @@ fn after_component(left: LeftSide, token: &Token) -> Next
     match token {
         Token::Sign(Symbol::Comma) => Next::Goes(Stage::Component(left)),
         Token::Sign(Symbol::CloseRound) => Next::Goes(Stage::Equals(left)),
-        _ => Next::Wrong,
+        _ => {
+            drop(left);
+            Next::Wrong
+        }
     }
 }
 
@@ -437,13 +454,16 @@ fn at_equals(left: LeftSide, token: &Token) -> Next
 {
     match token {
         Token::Sign(Symbol::EqualSign) => Next::Goes(Stage::Formula(left)),
-        _ => Next::Wrong,
+        _ => {
+            drop(left);
+            Next::Wrong
+        }
     }
 }
 
 /// What a token is to what is read of a statement.
-#[tactic(auto, unfolding(crate::specs::Machine::step))]
-pub fn step(alloc: Global, stage: Stage, placed: &Placed) -> Result<Next, AllocError>
+#[tactic(auto, unfolding(crate::specs::machine::Steps::step))]
+pub fn step(alloc: Global, stage: Stage, placed: &Placed) -> Result<Next, NoMemory>
     ensures { IfOk result (λ next. next ≡ step stage placed.now) }
 {
     let line = placed.line;
@@ -472,7 +492,10 @@ pub fn step(alloc: Global, stage: Stage, placed: &Placed) -> Result<Next, AllocE
         Stage::Magnitude(left) => at_magnitude(left, token)?,
         Stage::ComponentMore(left) => after_component(left, token),
         Stage::Equals(left) => at_equals(left, token),
-        Stage::Formula(_left) => Next::Wrong,
+        Stage::Formula(left) => {
+            drop(left);
+            Next::Wrong
+        }
     })
 }
 
@@ -484,6 +507,9 @@ pub fn finish(stage: Stage) -> Option<Statement>
         Stage::Finished(statement) => Some(statement),
         Stage::Sizes(param) => Some(Statement::Param(param)),
         Stage::TileOrEnd(input) => Some(untiled(input)),
-        _ => None,
+        other => {
+            drop(other);
+            None
+        }
     }
 }

@@ -1,4 +1,4 @@
-use std::alloc::AllocError;
+use crate::NoMemory;
 
 /// Why no statement was read.
 pub enum Stop {
@@ -8,13 +8,13 @@ pub enum Stop {
     Memory,
 }
 
-impl From<AllocError> for Stop {
+impl From<NoMemory> for Stop {
     ghost use Rattle.std.specs.Prelude.{◌≡◌};
     ghost use Rattle.soda_syntax.specs.declared.stop.Stop.{Stop};
 
     ghost from_gives = { λ _ stop. stop ≡ Stop.Memory };
 
-    fn from(_error: AllocError) -> Self {
+    fn from(_error: NoMemory) -> Self {
         Stop::Memory
     }
 }

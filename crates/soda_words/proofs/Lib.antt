@@ -1,4 +1,5 @@
 mod Examples
 pub mod Skips
 pub mod Fronts
+pub mod CallerLemmas
 pub mod Tables

@@ -5,7 +5,8 @@ use Rattle.std.proofs.lemmas.List.{length-drop}
 use Rattle.std.proofs.Math.Bool.{and-false}
 use Rattle.soda_words.specs.declared.symbol.Symbol.{Symbol}
 use Rattle.soda_words.specs.Names.{is_word_byte}
-use Rattle.soda_words.specs.Tokens.{Front, tokens_of, double_of, double_front, first_line, first_word, front_at, front_of, is_white, line_behind, placed, symbol_front, tokens_behind}
+use Rattle.soda_words.specs.Symbols.{double_of}
+use Rattle.soda_words.specs.Tokens.{Front, tokens_of, double_front, first_line, first_word, front_at, front_of, is_white, line_behind, placed, symbol_front, tokens_behind}
 use Rattle.soda_words.specs.declared.token.Placed.{Placed}
 use Rattle.soda_words.specs.declared.token.Token.{Token}
 use Rattle.soda_words.proofs.Fronts.{AreRead}

@@ -1,5 +1,6 @@
 pub mod IntType
 pub mod OperatorTable
+pub mod Symbols
 pub mod Limits
 pub mod Names
 pub mod Table

@@ -1,6 +1,10 @@
 -- Which words are names.
 use Rattle.std.specs.Prelude.{ℕ, Bool, false, not, ◌&&◌, ◌||◌, nat_le, nat_lt, ◌==◌, List, [], ◌∷◌, length, Option, Some, None, codes, if◌then◌else◌}
 use Rattle.std.specs.List.{list_all}
+use Rattle.soda_words.specs.Limits.{most_name}
+use Rattle.soda_words.specs.OperatorTable.{binary_row, unary_row}
+use Rattle.soda_words.specs.declared.operators.BinOp.TheVariants.{Min, Max}
+use Rattle.soda_words.specs.declared.operators.UnOp.TheVariants.{Abs}
 
 abbrev pub is_letter : ℕ → Bool
 is_letter b = (nat_le 65 b && nat_le b 90) || (nat_le 97 b && nat_le b 122)
@@ -19,7 +23,7 @@ is_word_byte b = begins_name b || is_digit b
 -- a letter or `_`, then letters, digits and `_`, at most 64 bytes
 abbrev pub is_name : List ℕ → Bool
 is_name [] = false
-is_name (b ∷ bs) = begins_name b && list_all is_word_byte bs && nat_lt (length bs) 64
+is_name (b ∷ bs) = begins_name b && list_all is_word_byte bs && nat_lt (length bs) most_name
 
 -- what follows this front, if the bytes begin with it
 abbrev pub behind : List ℕ → List ℕ → Option (List ℕ)
@@ -42,7 +46,8 @@ may_be_numbered word bs = elim (behind word bs) [ None ↦ false | Some ds ↦ l
 -- the words that stand for types
 abbrev pub is_cast_word : List ℕ → Bool
 is_cast_word bs =
-    is_numbered (codes "int") bs || is_numbered (codes "uint") bs || may_be_numbered (codes "float") bs || may_be_numbered (codes "half") bs || may_be_numbered (codes "double") bs
+    is_numbered (codes "int") bs || is_numbered (codes "uint") bs || may_be_numbered (codes "float") bs
+    || may_be_numbered (codes "half") bs || may_be_numbered (codes "double") bs
 
 -- the bytes are this word
 abbrev pub is_word : List ℕ → List ℕ → Bool
@@ -50,7 +55,9 @@ is_word word bs = elim (behind word bs) [ None ↦ false | Some rest ↦ length 
 
 -- the words that no tensor or param is called
 abbrev pub is_reserved : List ℕ → Bool
-is_reserved bs = is_cast_word bs || is_word (codes "min") bs || is_word (codes "max") bs || is_word (codes "abs") bs || is_word (codes "select") bs
+is_reserved bs =
+    is_cast_word bs || is_word (binary_row Min).spelling bs || is_word (binary_row Max).spelling bs
+    || is_word (unary_row Abs).spelling bs || is_word (codes "select") bs
 
 -- a name that a tensor or a param may have
 abbrev pub is_free_name : List ℕ → Bool

@@ -1,8 +1,8 @@
 -- The tokens of a text, with their lines.
 use Rattle.std.specs.Prelude.{ℕ, zero, suc, ◌+◌, ◌-◌, ◌*◌, ◌^◌, Bool, false, not, ◌&&◌, ◌||◌, ◌==◌, nat_le, nat_lt, List, [], ◌∷◌, ◌++◌, length, Option, Some, None, if◌then◌else◌}
 use Rattle.soda_words.specs.Names.{is_name, is_some_digits, is_word_byte}
+use Rattle.soda_words.specs.Symbols.{double_of, single_of}
 use Rattle.soda_words.specs.declared.symbol.Symbol.{Symbol}
-use Rattle.soda_words.specs.declared.symbol.Symbol.TheVariants.{BarBar, AmpAmp, EqualEqual, BangEqual, LessEqual, GreaterEqual, Bar, Caret, Amp, Less, Greater, PlusSign, MinusSign, Star, Slash, Percent, Tilde, Bang, OpenRound, CloseRound, OpenSquare, CloseSquare, Comma, Colon, EqualSign, Dot}
 use Rattle.soda_words.specs.declared.token.Placed.{Placed}
 use Rattle.soda_words.specs.declared.token.Token.{Token}
 use Rattle.soda_words.specs.declared.token.Token.TheVariants.{Name, Number, Sign, Bad}
@@ -38,21 +38,6 @@ is_number ds = is_some_digits ds && (not (begins_with_zero ds) || length ds == 1
 abbrev pub word_token : List ℕ → Token
 word_token w = if is_name w then Name w else (if is_number w then Number (value_behind 0 w) else Bad)
 
--- the symbols of two bytes: || && == != <= >=
-abbrev pub double_of : ℕ → ℕ → Option Symbol
-double_of a b =
-    if (a == 124 && b == 124) then Some BarBar else (if (a == 38 && b == 38) then Some AmpAmp else (if (a == 61 && b == 61) then Some EqualEqual else (if (a == 33 && b == 61) then Some BangEqual else (if (a == 60 && b == 61) then Some LessEqual else (if (a == 62 && b == 61) then Some GreaterEqual else None)))))
-
--- the operators of one byte: | ^ & < > + - * / % ~ !
-abbrev pub operator_of : ℕ → Option Symbol
-operator_of a =
-    if a == 124 then Some Bar else (if a == 94 then Some Caret else (if a == 38 then Some Amp else (if a == 60 then Some Less else (if a == 62 then Some Greater else (if a == 43 then Some PlusSign else (if a == 45 then Some MinusSign else (if a == 42 then Some Star else (if a == 47 then Some Slash else (if a == 37 then Some Percent else (if a == 126 then Some Tilde else (if a == 33 then Some Bang else None)))))))))))
-
--- the brackets and other marks: ( ) [ ] , : = .
-abbrev pub mark_of : ℕ → Option Symbol
-mark_of a =
-    if a == 40 then Some OpenRound else (if a == 41 then Some CloseRound else (if a == 91 then Some OpenSquare else (if a == 93 then Some CloseSquare else (if a == 44 then Some Comma else (if a == 58 then Some Colon else (if a == 61 then Some EqualSign else (if a == 46 then Some Dot else None)))))))
-
 -- the first of two, if it is there, and else the second
 abbrev pub or_else : {A : Type 0} → Option A → Option A → Option A
 or_else None b = b
@@ -70,7 +55,7 @@ pub record Front : Type 0 where
 
 -- a front of one byte
 abbrev pub single_front : ℕ → Front
-single_front b = record { token = Some (sign_or_bad (or_else (operator_of b) (mark_of b))); more = 0 }
+single_front b = record { token = Some (sign_or_bad (single_of b)); more = 0 }
 
 -- a front of two bytes where they are a symbol, and else of one
 abbrev pub double_front : ℕ → Option Symbol → Front
@@ -85,7 +70,10 @@ symbol_front b (c ∷ bs) = double_front b (double_of b c)
 -- what stands at the front of a byte and those behind it: white space, a comment, a word, a symbol or a bad byte
 unfoldable pub front_of : ℕ → List ℕ → Front
 front_of b bs =
-    if is_white b then record { token = None; more = 0 } else (if b == 35 then record { token = None; more = length (first_line bs) } else (if is_word_byte b then record { token = Some (word_token (b ∷ first_word bs)); more = length (first_word bs) } else symbol_front b bs))
+    if is_white b then record { token = None; more = 0 } else
+    (if b == 35 then record { token = None; more = length (first_line bs) } else
+    (if is_word_byte b then record { token = Some (word_token (b ∷ first_word bs)); more = length (first_word bs) } else
+    symbol_front b bs))
 
 -- the same of a list of bytes
 abbrev pub front_at : List ℕ → Front
@@ -101,7 +89,8 @@ placed line (Some t) = record { line = line; token = t } ∷ []
 abbrev pub line_behind : ℕ → ℕ → ℕ
 line_behind line b = if b == 10 then suc line else line
 
--- the tokens of what follows the first bytes, so many of which belong to what was read, where the first byte is on this line
+-- the tokens of what follows the first bytes, so many of which belong to what was read, where the first byte is on
+-- this line
 unfoldable pub tokens_behind : (belonging line : ℕ) → List ℕ → List Placed
 tokens_behind belonging line [] = []
 tokens_behind zero line (b ∷ bs) =
@@ -125,11 +114,13 @@ end_line bs = end_line_from 1 bs
 abbrev pub in_comment_behind : Bool → ℕ → Bool
 in_comment_behind c b = not (b == 10) && (c || b == 35)
 
--- the line of the first byte of 128 or more that stands in no comment, where the first byte stands in one or not, on this line
+-- the line of the first byte of 128 or more that stands in no comment, where the first byte stands in one or not, on
+-- this line
 abbrev pub not_ascii_from : (in_comment : Bool) (line : ℕ) → List ℕ → Option ℕ
 not_ascii_from c line [] = None
 not_ascii_from c line (b ∷ bs) =
-    if (nat_le 128 b && not c) then Some line else not_ascii_from (in_comment_behind c b) (line_behind line b) bs
+    if (nat_le 128 b && not c) then Some line else
+    not_ascii_from (in_comment_behind c b) (line_behind line b) bs
 
 -- the line of the first byte of 128 or more outside comments
 abbrev pub not_ascii : List ℕ → Option ℕ

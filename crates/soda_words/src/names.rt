@@ -2,8 +2,7 @@ ghost use Rattle.std.specs.Prelude.{◌≡◌, option_map, Option, List, ℕ};
 ghost use Rattle.std.specs.List.{list_all};
 ghost use Rattle.soda_words.specs.Names.{is_letter, is_digit, begins_name, is_word_byte, is_name, behind, is_some_digits, is_numbered, may_be_numbered, is_cast_word, is_word, is_reserved, is_free_name};
 
-/// The most bytes of a name.
-const MOST: usize = 64;
+use crate::MOST_NAME;
 
 fn is_letter(b: u8) -> bool
     ensures { result ≡ is_letter b }
@@ -48,7 +47,7 @@ pub fn is_name(bytes: &[u8]) -> bool
 {
     match bytes {
         [] => false,
-        [b, rest @ ..] => begins_name(*b) && all_word_bytes(rest) && rest.len() < MOST,
+        [b, rest @ ..] => begins_name(*b) && all_word_bytes(rest) && rest.len() < MOST_NAME,
     }
 }
 

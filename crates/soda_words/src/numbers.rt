@@ -29,7 +29,8 @@ fn begins_with_zero(bytes: &[u8]) -> bool
 /// The number that the bytes are, if they are one: `0`, or a digit from 1 to 9 and more digits,
 /// below 2^64.
 pub fn number(bytes: &[u8]) -> Option<u64>
-    ensures { MatchOption result (is_number bytes.now ≡ false) (λ n. (is_number bytes.now ≡ true) × (n ≡ value_behind 0 bytes.now)) }
+    ensures { MatchOption result (is_number bytes.now ≡ false)
+        (λ n. (is_number bytes.now ≡ true) × (n ≡ value_behind 0 bytes.now)) }
 {
     if !is_some_digits(bytes) || begins_with_zero(bytes) && bytes.len() != 1 {
         return None;

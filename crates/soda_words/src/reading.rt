@@ -1,5 +1,6 @@
 ghost use Rattle.std.specs.Prelude.{◌≡◌, ◌<◌, ◌≤◌, ◌+◌, ◌++◌, length, take, IfOk, OnOk, Some};
-ghost use Rattle.soda_words.specs.Tokens.{double_of, first_line, first_word, front_at, is_white, mark_of, operator_of, placed, sign_or_bad, or_else, symbol_front, tokens_of, word_token};
+ghost use Rattle.soda_words.specs.Symbols.{double_of, single_of};
+ghost use Rattle.soda_words.specs.Tokens.{first_line, first_word, front_at, is_white, placed, sign_or_bad, symbol_front, tokens_of, word_token};
 
 use crate::lines::line_behind;
 use crate::{NoMemory, Placed, Symbol, Token, is_name, is_word_byte, number};
@@ -51,7 +52,7 @@ fn word_token(alloc: Global, word: &[u8]) -> Result<Token, NoMemory>
     }
 }
 
-// The symbol that two bytes are, if they are one.
+// The symbol that two bytes write, if they write one.
 fn double_of(a: u8, b: u8) -> Option<Symbol>
     ensures { result ≡ double_of a b }
 {
@@ -72,9 +73,9 @@ fn double_of(a: u8, b: u8) -> Option<Symbol>
     }
 }
 
-// The operator that a byte is, if it is one.
-fn operator_of(a: u8) -> Option<Symbol>
-    ensures { result ≡ operator_of a }
+// The symbol that a byte writes, if it writes one.
+fn single_of(a: u8) -> Option<Symbol>
+    ensures { result ≡ single_of a }
 {
     match a {
         b'|' => Some(Symbol::Bar),
@@ -89,15 +90,6 @@ fn operator_of(a: u8) -> Option<Symbol>
         b'%' => Some(Symbol::Percent),
         b'~' => Some(Symbol::Tilde),
         b'!' => Some(Symbol::Bang),
-        _ => None,
-    }
-}
-
-// The bracket or other mark that a byte is, if it is one.
-fn mark_of(a: u8) -> Option<Symbol>
-    ensures { result ≡ mark_of a }
-{
-    match a {
         b'(' => Some(Symbol::OpenRound),
         b')' => Some(Symbol::CloseRound),
         b'[' => Some(Symbol::OpenSquare),
@@ -112,12 +104,9 @@ fn mark_of(a: u8) -> Option<Symbol>
 
 // The token of a byte that is no white space, no letter, digit or `_`, and begins no comment.
 fn single_token(a: u8) -> Token
-    ensures { result ≡ sign_or_bad (or_else (operator_of a) (mark_of a)) }
+    ensures { result ≡ sign_or_bad (single_of a) }
 {
-    if let Some(symbol) = operator_of(a) {
-        return Token::Sign(symbol);
-    }
-    match mark_of(a) {
+    match single_of(a) {
         Some(symbol) => Token::Sign(symbol),
         None => Token::Bad,
     }

@@ -23,7 +23,8 @@ impl Model for Ty {
 }
 
 impl Ty {
-    /// The type of this sign and this width in bits. `None` exactly where `bits` is 0, is above 64, or is 1 with `signed`.
+    /// The type of this sign and this width in bits. `None` exactly where `bits` is 0, is above 64, or is 1 with
+    /// `signed`.
     pub fn new(signed: bool, bits: u8) -> Option<Ty>
         ensures some { IsSome result ↔ IsType (record { signed = signed; bits = bits }) }
         ensures value { IfSome result (λ t. t ≡ record { signed = signed; bits = bits }) }

@@ -13,7 +13,8 @@ use Rattle.whole_files.specs.Writing.{WritesWhole}
 use Rattle.sodac_cli.specs.declared.status.Status.TheVariants as is
 use Rattle.sodac_cli.specs.Job.{array_files}
 use Rattle.sodac_cli.specs.Journal.{Asks, Clean, IsAtEnd}
-use Rattle.sodac_cli.proofs.Logs.{OneLog, QuietLog, WholeLog, create_failed, created, gots-append, one_made, open_failed, opened, read_failed, read_long_log, read_memory_log, read_whole_log, silent, then_broken, then_clean, write_failed, write_failed_quiet, written_log}
+use Rattle.whole_files.proofs.CallerLemmas.{gots-append}
+use Rattle.sodac_cli.proofs.Logs.{OneLog, QuietLog, WholeLog, create_failed, created, one_made, open_failed, opened, read_failed, read_long_log, read_memory_log, read_whole_log, silent, then_broken, then_clean, write_failed, write_failed_quiet, written_log}
 
 abbrev pub Always : ℕ → Type 0
 Always k = Unit {0}

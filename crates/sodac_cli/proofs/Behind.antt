@@ -19,10 +19,12 @@ use Rattle.sodac_cli.specs.declared.status.Status.TheVariants as is
 use Rattle.sodac_cli.specs.Job.{Job, JobFile, PlainJob, array_files, job_files, later_files, plain_job, program_of}
 use Rattle.sodac_cli.specs.Journal.{Asks, Broken, Clean, Ends, IsAtEnd, IsFailure, asking}
 use Rattle.sodac_cli.specs.Answers.{Allows, CanFailToPrint, Faults, IsBehindProgram, IsOfProgram, OutFaults}
-use Rattle.sodac_cli.specs.Meaning.{Before, HasProgram, HasRefusedText, Holding, IsBegun, IsBuilt, IsFine, IsOnlyCause, IsRefusedJob, IsUnbuiltJob, Tells, form, most_text, text}
+use Rattle.soda_words.specs.Limits.{most_text}
+use Rattle.sodac_cli.specs.Meaning.{Before, HasProgram, HasRefusedText, Holding, IsBegun, IsBuilt, IsFine, IsOnlyCause, IsRefusedJob, IsUnbuiltJob, Tells, form, text}
 use Rattle.sodac_cli.specs.Stages.{ReadLog, TextBytes, TextLog}
 use Rattle.sodac_cli.proofs.Begun.{Always, not_opened}
-use Rattle.sodac_cli.proofs.Logs.{broken_quiet, failure_behind, good_quiet, gots-append, then_broken, then_clean}
+use Rattle.whole_files.proofs.CallerLemmas.{gots-append}
+use Rattle.sodac_cli.proofs.Logs.{broken_quiet, failure_behind, good_quiet, then_broken, then_clean}
 
 some_same : {A : Type 0} (x y : A) → Some x ≡ Some y → x ≡ y
 some_same x y e = cc

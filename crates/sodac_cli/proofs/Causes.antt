@@ -9,7 +9,8 @@ use Rattle.job_parts.specs.Cells.{AreCells}
 use Rattle.sodac_cli.specs.declared.status.Status.{Status}
 use Rattle.sodac_cli.specs.declared.status.Status.TheVariants as is
 use Rattle.sodac_cli.specs.Job.{Job, check_job, plain_job}
-use Rattle.sodac_cli.specs.Meaning.{HasInputs, HasOddInputs, HasProgram, HasRefusedText, Holding, IsBegun, IsBuilt, IsFine, IsOnlyCause, IsRefusedJob, IsUnbuiltJob, KeepsItsLimits, KeepsLimits, PassesItsLimit, PassesLimit, Tells, form, input, limit, many_cells, many_in_all, most_text, text}
+use Rattle.soda_words.specs.Limits.{most_text}
+use Rattle.sodac_cli.specs.Meaning.{HasInputs, HasOddInputs, HasProgram, HasRefusedText, Holding, IsBegun, IsBuilt, IsFine, IsOnlyCause, IsRefusedJob, IsUnbuiltJob, KeepsItsLimits, KeepsLimits, PassesItsLimit, PassesLimit, Tells, form, input, limit, many_cells, many_in_all, text}
 
 some_same : {A : Type 0} (x y : A) → Some x ≡ Some y → x ≡ y
 some_same x y e = cc

@@ -12,7 +12,8 @@ use Rattle.soda_eval.specs.Sums.{IsSumProgram}
 use Rattle.job_parts.specs.Cells.{AreCells}
 use Rattle.sodac_cli.specs.Job.{PlainJob, plain_job}
 use Rattle.sodac_cli.specs.Journal.{creates}
-use Rattle.sodac_cli.specs.Meaning.{HasProgram, Holding, IsBegun, IsFine, IsTextOver, IsUnbuiltJob, LeavesOutput, input, most_cells, most_total, output_text, total_at}
+use Rattle.soda_words.specs.Limits.{most_cells, most_total}
+use Rattle.sodac_cli.specs.Meaning.{HasProgram, Holding, IsBegun, IsFine, IsTextOver, IsUnbuiltJob, LeavesOutput, input, output_text, total_at}
 use Rattle.sodac_cli.proofs.Running.{cells_short}
 
 -- entries among which a file was created

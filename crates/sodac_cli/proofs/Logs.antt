@@ -13,6 +13,7 @@ use Rattle.whole_files.specs.declared.reading.ReadFail.TheVariants as fail
 use Rattle.whole_files.specs.Journal.{IsGot, IsTaken, NoneAfterEnd, gots}
 use Rattle.whole_files.specs.Reading.{ReadsWhole, last_read}
 use Rattle.whole_files.specs.Writing.{WritesWhole, last_write}
+use Rattle.whole_files.proofs.CallerLemmas.{gots-append}
 use Rattle.sodac_cli.specs.Journal.{Broken, Clean, IsAtEnd, IsFailure, IsGood, NoneReadsOn, makings}
 use Rattle.sodac_cli.specs.Stages.{OnlyReads}
 
@@ -22,18 +23,6 @@ makings-append (Open name id ∷ xs) ys = ap (λ (ms : List (Bool × List ℕ)).
 makings-append (Create name id ∷ xs) ys = ap (λ (ms : List (Bool × List ℕ)). (false, name) ∷ ms) (makings-append xs ys)
 makings-append (Read id asked got ∷ xs) ys = makings-append xs ys
 makings-append (Write id given taken ∷ xs) ys = makings-append xs ys
-
--- what the reads of an id got
-pub gots-append : (k : ℕ) (xs ys : List FileCall) → gots k (xs ++ ys) ≡ gots k xs ++ gots k ys
-gots-append k [] ys = refl
-gots-append k (Open name id ∷ xs) ys = gots-append k xs ys
-gots-append k (Create name id ∷ xs) ys = gots-append k xs ys
-gots-append k (Read id asked got ∷ xs) ys =
-    elim (id == k) as (λ t. (if t then (got ∷ gots k (xs ++ ys)) else gots k (xs ++ ys)) ≡ (if t then (got ∷ gots k xs) else gots k xs) ++ gots k ys) [
-      | true ↦ ap (λ (gs : List (Option ℕ)). got ∷ gs) (gots-append k xs ys)
-      | false ↦ gots-append k xs ys
-    ]
-gots-append k (Write id given taken ∷ xs) ys = gots-append k xs ys
 
 -- a read of another id
 pub other_read : (k id asked : ℕ) (got : Option ℕ) (es : List FileCall) → k ≢ id → gots k (Read id asked got ∷ es) ≡ gots k es

@@ -14,7 +14,8 @@ use Rattle.soda_parse.specs.declared.refusal.Refusal.TheVariants.{TextTooLong}
 use Rattle.sodac_cli.specs.declared.status.Status.TheVariants as is
 use Rattle.sodac_cli.specs.Job.{Job, program_of}
 use Rattle.sodac_cli.specs.Journal.{IsAtEnd}
-use Rattle.sodac_cli.specs.Meaning.{HasPassedLimit, IsBuilt, PassesItsLimit, limit, most_text}
+use Rattle.soda_words.specs.Limits.{most_text}
+use Rattle.sodac_cli.specs.Meaning.{HasPassedLimit, IsBuilt, PassesItsLimit, limit}
 use Rattle.sodac_cli.specs.Stages.{Goes, ReadLog, Stops, TextBytes, TextLog}
 use Rattle.sodac_cli.proofs.Behind.{accepted_text, failed_first, form_not_begun, long_bytes, long_text, memory_first, none_or_first, not_program, not_refused, only_program, only_refused, refused_first, refused_text, unbuilt_first, unbuilt_form}
 use Rattle.sodac_cli.proofs.Causes.{accepted_only, long_first, long_none, refused_only}

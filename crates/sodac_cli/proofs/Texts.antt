@@ -9,7 +9,8 @@ use Rattle.whole_files.specs.declared.reading.ReadFail.TheVariants as fail
 use Rattle.whole_files.specs.Reading.{ReadsWhole, items_of}
 use Rattle.sodac_cli.specs.Journal.{IsAtEnd}
 use Rattle.sodac_cli.specs.Stages.{ReadLog, TextLog}
-use Rattle.sodac_cli.proofs.Logs.{OneLog, QuietLog, gots-append, opened, read_failed, read_long_log, read_memory_log, read_whole_log, then_broken, then_clean}
+use Rattle.whole_files.proofs.CallerLemmas.{gots-append}
+use Rattle.sodac_cli.proofs.Logs.{OneLog, QuietLog, opened, read_failed, read_long_log, read_memory_log, read_whole_log, then_broken, then_clean}
 
 module _ (g m most : ℕ) (a b c : Store) (name : List ℕ) where
   abbrev two : (id : ℕ) → id ≡ g → QuietLog g a b ((true, name) ∷ []) → OneLog g id b c [] → ReadLog g a c name

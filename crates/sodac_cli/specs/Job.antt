@@ -52,7 +52,8 @@ pub record JobFile : Type 0 where
 -- the files of arrays, in order
 abbrev pub array_files : List ℕ → List ℕ → List JobFile
 array_files input output =
-    record { role = Input 0; opened = true; name = input } ∷ record { role = Output 0; opened = false; name = output } ∷ []
+    record { role = Input 0; opened = true; name = input } ∷ record { role = Output 0; opened = false; name = output }
+    ∷ []
 
 -- the files of a job behind its program, in order
 abbrev pub later_files : Job → List JobFile

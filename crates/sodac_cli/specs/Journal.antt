@@ -89,12 +89,14 @@ AreReadOut id [] entries = Unit {0}
 AreReadOut id (f ∷ fs) entries = (f.opened ≡ true → IsAtEnd (gots id entries)) × AreReadOut (id + 1) fs entries
 
 -- all files were asked for, and each that is opened was read to its end
-pub record AreDone (given : ℕ) (files : List JobFile) (made : List (Bool × List ℕ)) (entries : List FileCall) : Type 0 where
+pub record AreDone (given : ℕ) (files : List JobFile) (made : List (Bool × List ℕ))
+    (entries : List FileCall) : Type 0 where
   pub all : made ≡ map asking files
   pub out : AreReadOut given files entries
 
 -- the first of the files alone was asked for, and it was read to its end unless its text is too long
-pub record IsJudged (given : ℕ) (files : List JobFile) (made : List (Bool × List ℕ)) (entries : List FileCall) (r : Refusal) : Type 0 where
+pub record IsJudged (given : ℕ) (files : List JobFile) (made : List (Bool × List ℕ)) (entries : List FileCall)
+    (r : Refusal) : Type 0 where
   pub alone : made ≡ map asking (take 1 files)
   pub out : r ≢ TextTooLong → IsAtEnd (gots given entries)
 
@@ -109,9 +111,10 @@ Ends given old new files made is.Usage = Clean given old new made
 Ends given old new files made is.NotYetBuilt = Clean given old new made
 
 -- The files that were asked for are the first of the job's, in order, each once and under its own name, and each only
--- where nothing before it refused; where the program is fine, a refusal comes only once all were asked for; and the last
--- call failed exactly where the status is a fault of its file.
-pub record Asks (given : ℕ) (old new : Store) (files : List JobFile) (Before : ℕ → Type 0) (status : Status) : Type 0 where
+-- where nothing before it refused; where the program is fine, a refusal comes only once all were asked for; and the
+-- last call failed exactly where the status is a fault of its file.
+pub record Asks (given : ℕ) (old new : Store) (files : List JobFile) (Before : ℕ → Type 0)
+    (status : Status) : Type 0 where
   pub made : List JobFile
   pub rest : List JobFile
   pub order : files ≡ made ++ rest

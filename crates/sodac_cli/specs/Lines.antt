@@ -94,10 +94,14 @@ line_of is.NotYetBuilt = codes "sodac: not yet built\n"
 abbrev pub Reports : List ℕ → List ℕ → ℕ → ℕ → Status → Type 0
 Reports old new before now is.Memory = (status : Status) × (n : ℕ) × (new ≡ old ++ take n (line_of status))
 Reports old new before now is.Ok = new ≡ old
-Reports old new before now is.Usage = (new ≡ old ++ line_of is.Usage) ⊎ ((n : ℕ) × (new ≡ old ++ take n (line_of is.Usage)) × Rose before now)
-Reports old new before now is.OutFault = (new ≡ old ++ line_of is.OutFault) ⊎ ((n : ℕ) × (new ≡ old ++ take n (line_of is.OutFault)) × Rose before now)
-Reports old new before now is.NotYetBuilt = (new ≡ old ++ line_of is.NotYetBuilt) ⊎ ((n : ℕ) × (new ≡ old ++ take n (line_of is.NotYetBuilt)) × Rose before now)
+Reports old new before now is.Usage = (new ≡ old ++ line_of is.Usage)
+    ⊎ ((n : ℕ) × (new ≡ old ++ take n (line_of is.Usage)) × Rose before now)
+Reports old new before now is.OutFault = (new ≡ old ++ line_of is.OutFault)
+    ⊎ ((n : ℕ) × (new ≡ old ++ take n (line_of is.OutFault)) × Rose before now)
+Reports old new before now is.NotYetBuilt = (new ≡ old ++ line_of is.NotYetBuilt)
+    ⊎ ((n : ℕ) × (new ≡ old ++ take n (line_of is.NotYetBuilt)) × Rose before now)
 Reports old new before now (is.Program r) =
     (new ≡ old ++ line_of (is.Program r)) ⊎ ((n : ℕ) × (new ≡ old ++ take n (line_of (is.Program r))) × Rose before now)
 Reports old new before now (is.FileFault role) =
-    (new ≡ old ++ line_of (is.FileFault role)) ⊎ ((n : ℕ) × (new ≡ old ++ take n (line_of (is.FileFault role))) × Rose before now)
+    (new ≡ old ++ line_of (is.FileFault role))
+    ⊎ ((n : ℕ) × (new ≡ old ++ take n (line_of (is.FileFault role))) × Rose before now)

@@ -15,22 +15,11 @@ use Rattle.sodac_cli.specs.declared.status.Status.{Status}
 use Rattle.sodac_cli.specs.declared.status.Status.TheVariants as is
 use Rattle.sodac_cli.specs.Job.{Job, PlainJob, check_job, plain_job, program_of}
 use Rattle.sodac_cli.specs.Journal.{creates}
+use Rattle.soda_words.specs.Limits.{most_cells, most_text, most_total}
 
 -- what each name holds
 abbrev pub Holding : Type 0
 Holding = List ℕ → Option (List ℕ)
-
--- the most bytes of a program text
-abbrev pub most_text : ℕ
-most_text = 1048576
-
--- the most cells of an array
-abbrev pub most_cells : ℕ
-most_cells = 16777216
-
--- the most cells of the arrays of all tensors together
-abbrev pub most_total : ℕ
-most_total = 67108864
 
 -- how many cells they have together
 abbrev pub total_at : PlainProgram → ℕ → ℕ
@@ -44,7 +33,8 @@ pub record KeepsLimits (p : PlainProgram) (rows : ℕ) : Type 0 where
 -- the limit that they pass, with the number that passes it: the cells of an array come first
 pub data PassesLimit (p : PlainProgram) (rows : ℕ) (r : Refusal) : Type 0 where
   many_cells : most_cells < cells_at p rows → r ≡ Limit Cells (cells_at p rows) → PassesLimit p rows r
-  many_in_all : cells_at p rows ≤ most_cells → most_total < total_at p rows → r ≡ Limit Total (total_at p rows) → PassesLimit p rows r
+  many_in_all : cells_at p rows ≤ most_cells → most_total < total_at p rows → r ≡ Limit Total (total_at p rows) →
+      PassesLimit p rows r
 
 -- what a job asks of an accepted program so that it can be done yet: of `plain` that it is a sum
 abbrev pub IsBuilt : Job → PlainProgram → Type 0
@@ -176,12 +166,13 @@ Tells old new j is.Memory = Unit {0}
 abbrev pub IsFront : Holding → PlainJob → List ℕ → Type 0
 IsFront old j bytes = (bytes ≡ []) ⊎ ((f : IsFine old (plain_job j)) × (n : ℕ) × (bytes ≡ take n (output_text old j f)))
 
--- No name but the output's changes. The output keeps its bytes where no file was created; where it was, it holds a front
--- of the bytes of its array.
+-- No name but the output's changes. The output keeps its bytes where no file was created; where it was, it holds a
+-- front of the bytes of its array.
 pub record LeavesOutput (old new : Store) (j : PlainJob) : Type 0 where
   pub others : (n : List ℕ) → n ≢ j.output → new.bytes n ≡ old.bytes n
   pub output : (entries : List FileCall) → new.calls ≡ old.calls ++ entries
-      → ((new.bytes j.output ≡ old.bytes j.output) × (creates entries ≡ [])) ⊎ ((creates entries ≢ []) × (bytes : List ℕ) × (new.bytes j.output ≡ Some bytes) × IsFront old.bytes j bytes)
+      → ((new.bytes j.output ≡ old.bytes j.output) × (creates entries ≡ []))
+      ⊎ ((creates entries ≢ []) × (bytes : List ℕ) × (new.bytes j.output ≡ Some bytes) × IsFront old.bytes j bytes)
 
 -- no name changes, and no file was created
 pub record LeavesAll (old new : Store) : Type 0 where
@@ -204,7 +195,8 @@ abbrev pub IsOnlyCause : Holding → Job → Status → Type 0
 IsOnlyCause old j is.Ok = (IsUnbuiltJob old j → ⊥) × ((r : Refusal) → IsRefusedJob old j r → ⊥)
 IsOnlyCause old j is.OutFault = (IsUnbuiltJob old j → ⊥) × ((r : Refusal) → IsRefusedJob old j r → ⊥)
 IsOnlyCause old j is.NotYetBuilt = (IsFine old j → ⊥) × ((r : Refusal) → IsRefusedJob old j r → ⊥)
-IsOnlyCause old j (is.Program r) = (IsFine old j → ⊥) × (IsUnbuiltJob old j → ⊥) × ((s : Refusal) → IsRefusedJob old j s → s ≡ r)
+IsOnlyCause old j (is.Program r) = (IsFine old j → ⊥) × (IsUnbuiltJob old j → ⊥)
+    × ((s : Refusal) → IsRefusedJob old j s → s ≡ r)
 IsOnlyCause old j is.Usage = Unit {0}
 IsOnlyCause old j is.Memory = Unit {0}
 IsOnlyCause old j (is.FileFault role) = Unit {0}

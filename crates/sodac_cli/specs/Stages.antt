@@ -12,7 +12,8 @@ use Rattle.soda_parse.specs.declared.refusal.Refusal.{Refusal}
 use Rattle.sodac_cli.specs.declared.status.Status.{Status}
 use Rattle.sodac_cli.specs.Job.{Job, job_files, program_of}
 use Rattle.sodac_cli.specs.Journal.{Asks, Broken, Clean, IsAtEnd}
-use Rattle.sodac_cli.specs.Meaning.{Before, HasProgram, HasRefusedText, IsOnlyCause, Leaves, Tells, most_text}
+use Rattle.soda_words.specs.Limits.{most_text}
+use Rattle.sodac_cli.specs.Meaning.{Before, HasProgram, HasRefusedText, IsOnlyCause, Leaves, Tells}
 
 -- reads are of this id alone
 abbrev pub OnlyReads : ℕ → List FileCall → Type 0

@@ -18,9 +18,11 @@ pub(crate) fn check<F: Files, S: Sink>(
     out: &mut S,
 ) -> Status
     ensures allows { Allows (check_job name.now) result }
-    ensures stops { F.tells → Stops (F.given files.old) (F.store files.old) (F.store files.new) (check_job name.now) result }
+    ensures stops { F.tells → Stops (F.given files.old) (F.store files.old) (F.store files.new)
+        (check_job name.now) result }
     ensures faults { Faults (F.faults files.old) (F.faults files.new) result }
-    ensures prints { F.tells → S.tells → Prints (F.store files.old).bytes (check_job name.now) (S.taken out.old) (S.taken out.new) result }
+    ensures prints { F.tells → S.tells → Prints (F.store files.old).bytes (check_job name.now) (S.taken out.old)
+        (S.taken out.new) result }
     ensures out_faults { OutFaults (S.faults out.old) (S.faults out.new) result }
 {
     let program = match read_program(alloc, files, name) {

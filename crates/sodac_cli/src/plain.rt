@@ -14,13 +14,8 @@ use soda_io::Files;
 use soda_eval::is_sum_program;
 use soda_ir::Program;
 use soda_parse::{LimitKind, Refusal};
+use soda_words::{MOST_CELLS, MOST_TOTAL};
 use std::alloc::Global;
-
-/// The most cells of an array.
-const MOST_CELLS: u64 = 16_777_216;
-
-/// The most cells of the arrays of all tensors together.
-const MOST_TOTAL: u64 = 67_108_864;
 
 // The limit that the arrays of so many rows pass, if they pass one.
 fn passed_limit(program: &Program, rows: u64) -> Option<Refusal>
@@ -42,7 +37,8 @@ fn passed_limit(program: &Program, rows: u64) -> Option<Refusal>
 pub(crate) fn plain<F: Files>(alloc: Global, job: &PlainWords, files: &mut F) -> Status
     requires { job.now.output.now ≢ job.now.input.now }
     ensures allows { Allows (plain_job (job_of job.now)) result }
-    ensures stops { F.tells → Stops (F.given files.old) (F.store files.old) (F.store files.new) (plain_job (job_of job.now)) result }
+    ensures stops { F.tells → Stops (F.given files.old) (F.store files.old) (F.store files.new)
+        (plain_job (job_of job.now)) result }
     ensures faults { Faults (F.faults files.old) (F.faults files.new) result }
 {
     let program = match read_program(alloc, files, job.program) {

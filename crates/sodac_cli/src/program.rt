@@ -11,11 +11,9 @@ use crate::Status;
 use soda_io::{FileRole, Files, IoErr};
 use soda_ir::Program;
 use soda_parse::{ParseFail, Refusal, parse};
+use soda_words::MOST_TEXT;
 use std::alloc::Global;
 use whole_files::{ReadFail, read_whole};
-
-/// The most bytes of a program text.
-const MOST_TEXT: u32 = 1_048_576;
 
 // Opens the program's file and reads it.
 fn read_text<F: Files>(alloc: Global, files: &mut F, name: &str) -> Result<Vec<u8>, ReadFail>
@@ -42,8 +40,10 @@ pub(crate) fn read_program<F: Files>(
     name: &str,
 ) -> Result<Program, Status>
     ensures given { OnOk result (F.given files.new ≡ F.given files.old + 1) }
-    ensures goes { F.tells → IfOk result (λ program. (j : Job) → program_of j ≡ name.now → Goes (F.given files.old) (F.store files.old) (F.store files.new) j (plain program)) }
-    ensures stops { F.tells → IfErr result (λ status. (j : Job) → program_of j ≡ name.now → Stops (F.given files.old) (F.store files.old) (F.store files.new) j status) }
+    ensures goes { F.tells → IfOk result (λ program. (j : Job) → program_of j ≡ name.now →
+        Goes (F.given files.old) (F.store files.old) (F.store files.new) j (plain program)) }
+    ensures stops { F.tells → IfErr result (λ status. (j : Job) → program_of j ≡ name.now →
+        Stops (F.given files.old) (F.store files.old) (F.store files.new) j status) }
     ensures of_program { IfErr result (λ status. IsOfProgram status) }
     ensures kept { OnOk result (F.faults files.new ≡ F.faults files.old) }
     ensures faults { IfErr result (λ status. Faults (F.faults files.old) (F.faults files.new) status) }

@@ -6,7 +6,8 @@ ghost use Rattle.job_parts.specs.Cells.{AreCells};
 ghost use Rattle.sodac_cli.specs.Answers.{Faults, IsBehindProgram};
 ghost use Rattle.sodac_cli.specs.Job.{array_files, job_of, plain_job};
 ghost use Rattle.sodac_cli.specs.Journal.{Asks};
-ghost use Rattle.sodac_cli.specs.Meaning.{HasProgram, IsTextOver, Leaves, Tells, most_cells, most_total, text_of, total_at};
+ghost use Rattle.soda_words.specs.Limits.{most_cells, most_total};
+ghost use Rattle.sodac_cli.specs.Meaning.{HasProgram, IsTextOver, Leaves, Tells, text_of, total_at};
 
 use crate::Status;
 use job_parts::{PlainWords, array_text, read_cells};
@@ -45,8 +46,10 @@ fn text_over(
 ) -> Result<Option<Vec<u8>>, NoMemory>
     requires sums { IsSumProgram (plain program.now) }
     requires small { cells_at (plain program.now) rows ≤ most_cells }
-    ensures found { IfOk result (λ found. IfSome found (λ text. IsTextOver (plain program.now) rows input.now text.items)) }
-    ensures none { IfOk result (λ found. IfNone found ((cells : List ℤ) → AreCells (cells_at (plain program.now) rows) input.now cells → ⊥)) }
+    ensures found { IfOk result (λ found. IfSome found
+        (λ text. IsTextOver (plain program.now) rows input.now text.items)) }
+    ensures none { IfOk result (λ found. IfNone found
+        ((cells : List ℤ) → AreCells (cells_at (plain program.now) rows) input.now cells → ⊥)) }
 {
     match read_cells(alloc, input, rows)? {
         Some(cells) => Ok(Some(output_text(alloc, program, rows, cells)?)),
@@ -67,9 +70,11 @@ pub(crate) fn run<F: Files>(
     requires few { total_at (plain program.now) job.now.rows ≤ most_total }
     requires program { F.tells → HasProgram (F.store files.old).bytes (plain_job (job_of job.now)) (plain program.now) }
     ensures begun { IsBehindProgram result }
-    ensures asks { F.tells → Asks (F.given files.old) (F.store files.old) (F.store files.new) (array_files job.now.input.now job.now.output.now) (λ k. Unit {0}) result }
+    ensures asks { F.tells → Asks (F.given files.old) (F.store files.old) (F.store files.new)
+        (array_files job.now.input.now job.now.output.now) (λ k. Unit {0}) result }
     ensures leaves { F.tells → Leaves (F.store files.old) (F.store files.new) (plain_job (job_of job.now)) }
-    ensures tells { F.tells → Tells (F.store files.old).bytes (F.store files.new).bytes (plain_job (job_of job.now)) result }
+    ensures tells { F.tells → Tells (F.store files.old).bytes (F.store files.new).bytes
+        (plain_job (job_of job.now)) result }
     ensures faults { Faults (F.faults files.old) (F.faults files.new) result }
 {
     let input = match files.open(job.input) {

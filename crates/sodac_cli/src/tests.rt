@@ -14,7 +14,8 @@ const CELLS: &[u8] = b"1\n2\n4\n8\n16\n";
 const SUMS: &[u8] = b"0\n7\n14\n28\n0\n";
 
 const AVG: &[u8] =
-    b"kernel: avg\nburst width: 8\nunroll factor: 1\ninput uint8: a(*)\noutput uint8: o(0) = (a(-1) + a(0) + a(1)) / 3\n";
+    b"kernel: avg\nburst width: 8\nunroll factor: 1\ninput uint8: a(*)\noutput uint8: o(0) =
+        (a(-1) + a(0) + a(1)) / 3\n";
 
 // The canonical text of `AVG`.
 const PRINTED: &[u8] =

@@ -22,12 +22,15 @@ use std::alloc::Global;
 // Does what the words say.
 fn job<F: Files, S: Sink>(alloc: Global, words: &[String], files: &mut F, out: &mut S) -> Status
     ensures words { WordsSay words.now result }
-    ensures untouched { (¬ TakesWords words.now) ⊎ HasUnbuiltMode words.now → F.tells → Untouched (F.store files.old) (F.store files.new) }
+    ensures untouched { (¬ TakesWords words.now) ⊎ HasUnbuiltMode words.now → F.tells →
+        Untouched (F.store files.old) (F.store files.new) }
     ensures refused { HasUnbuiltMode words.now → IsRefused result }
     ensures allows { (j : Job) → AsksFor words.now j → Allows j result }
-    ensures stops { (j : Job) → AsksFor words.now j → F.tells → Stops (F.given files.old) (F.store files.old) (F.store files.new) j result }
+    ensures stops { (j : Job) → AsksFor words.now j → F.tells →
+        Stops (F.given files.old) (F.store files.old) (F.store files.new) j result }
     ensures faults { Faults (F.faults files.old) (F.faults files.new) result }
-    ensures prints { (j : Job) → AsksFor words.now j → F.tells → S.tells → Prints (F.store files.old).bytes j (S.taken out.old) (S.taken out.new) result }
+    ensures prints { (j : Job) → AsksFor words.now j → F.tells → S.tells →
+        Prints (F.store files.old).bytes j (S.taken out.old) (S.taken out.new) result }
     ensures silent { IsSilent words.now → S.tells → S.taken out.new ≡ S.taken out.old }
     ensures silent_without_fault { IsSilent words.now → S.faults out.new ≡ S.faults out.old }
     ensures out_faults { OutFaults (S.faults out.old) (S.faults out.new) result }
@@ -40,8 +43,8 @@ fn job<F: Files, S: Sink>(alloc: Global, words: &[String], files: &mut F, out: &
     }
 }
 
-/// Does what the words say over the files, prints to `out` what the mode prints, and reports to `err` what it doesn't do.
-/// The first word is the program's own name.
+/// Does what the words say over the files, prints to `out` what the mode prints, and reports to `err` what it doesn't
+/// do. The first word is the program's own name.
 ///
 /// The status is that of the first refusal or fault: the words, the program's file, and its text; behind it in `check`
 /// putting its canonical text to `out`; and in `plain` its form, the limits on cells, opening the input, creating the
@@ -56,39 +59,48 @@ pub fn execute<F: Files, S: Sink, E: Sink>(
     // `Usage` comes exactly where the words aren't taken, want of memory aside.
     ensures words { WordsSay words.now result }
     // Where they aren't, or name a mode that isn't built, the journal gets no entry and no name changes.
-    ensures untouched { (¬ TakesWords words.now) ⊎ HasUnbuiltMode words.now → F.tells → Untouched (F.store files.old) (F.store files.new) }
+    ensures untouched { (¬ TakesWords words.now) ⊎ HasUnbuiltMode words.now → F.tells →
+        Untouched (F.store files.old) (F.store files.new) }
     // A mode that isn't built is refused as such, want of memory aside.
     ensures refused { HasUnbuiltMode words.now → IsRefused result }
     // `check` is built for each program, `plain` prints nothing that could fail, and a fault is of a file of the job.
     ensures allows { (j : Job) → AsksFor words.now j → Allows j result }
     // What is asked of the files, by the journal of calls, and which fault it ends with.
-    ensures asks { (j : Job) → AsksFor words.now j → F.tells → Asks (F.given files.old) (F.store files.old) (F.store files.new) (job_files j) (Before (F.store files.old).bytes j) result }
-    // In `check` no name changes; in `plain` none but the output's, and that only if it was created; then it holds a front
-    // of its bytes.
+    ensures asks { (j : Job) → AsksFor words.now j → F.tells →
+        Asks (F.given files.old) (F.store files.old) (F.store files.new) (job_files j)
+        (Before (F.store files.old).bytes j) result }
+    // In `check` no name changes; in `plain` none but the output's, and that only if it was created; then it holds a
+    // front of its bytes.
     ensures leaves { (j : Job) → AsksFor words.now j → F.tells → Leaves (F.store files.old) (F.store files.new) j }
-    // At Ok all is well, and the output of `plain` holds the text of the defined array. `Program` and `NotYetBuilt` have
-    // their causes. A fault of the input or the output comes only once the job is begun, and one of `out` only where all
-    // is well.
-    ensures tells { (j : Job) → AsksFor words.now j → F.tells → Tells (F.store files.old).bytes (F.store files.new).bytes j result }
+    // At Ok all is well, and the output of `plain` holds the text of the defined array. `Program` and `NotYetBuilt`
+    // have their causes. A fault of the input or the output comes only once the job is begun, and one of `out` only
+    // where all is well.
+    ensures tells { (j : Job) → AsksFor words.now j → F.tells →
+        Tells (F.store files.old).bytes (F.store files.new).bytes j result }
     // No fault is passed over, and each has its count.
     ensures faults { Faults (F.faults files.old) (F.faults files.new) result }
     ensures out_faults { OutFaults (S.faults out.old) (S.faults out.new) result }
-    // What `out` took: at Ok the lines of the mode, for `check` the canonical text of the program; at a fault of `out` or
-    // want of memory a front of them; else nothing.
-    ensures prints { (j : Job) → AsksFor words.now j → F.tells → S.tells → Prints (F.store files.old).bytes j (S.taken out.old) (S.taken out.new) result }
+    // What `out` took: at Ok the lines of the mode, for `check` the canonical text of the program; at a fault of
+    // `out` or want of memory a front of them; else nothing.
+    ensures prints { (j : Job) → AsksFor words.now j → F.tells → S.tells →
+        Prints (F.store files.old).bytes j (S.taken out.old) (S.taken out.new) result }
     // Nothing is printed in another mode than `check`, nor where the words aren't taken.
     ensures silent { IsSilent words.now → S.tells → S.taken out.new ≡ S.taken out.old }
     ensures silent_without_fault { IsSilent words.now → S.faults out.new ≡ S.faults out.old }
     // The line of the status, or a front of it.
-    ensures reports { E.tells → Reports (E.taken err.old) (E.taken err.new) (E.faults err.old) (E.faults err.new) result }
+    ensures reports { E.tells → Reports (E.taken err.old) (E.taken err.new) (E.faults err.old)
+        (E.faults err.new) result }
     // With nothing amiss it is done, but for want of memory.
     ensures complete { (j : Job) → AsksFor words.now j → F.tells → IsFine (F.store files.old).bytes j
-        → ¬ Rose (F.faults files.old) (F.faults files.new) → (CanFailToPrint j → ¬ Rose (S.faults out.old) (S.faults out.new)) → (result ≡ is.Ok) ⊎ (result ≡ is.Memory) }
+        → ¬ Rose (F.faults files.old) (F.faults files.new) →
+        (CanFailToPrint j → ¬ Rose (S.faults out.old) (S.faults out.new)) →
+        (result ≡ is.Ok) ⊎ (result ≡ is.Memory) }
     // What isn't built is refused as such, but for a fault before it and for want of memory.
     ensures unbuilt { (j : Job) → AsksFor words.now j → F.tells → IsUnbuiltJob (F.store files.old).bytes j
         → ¬ Rose (F.faults files.old) (F.faults files.new) → (result ≡ is.NotYetBuilt) ⊎ (result ≡ is.Memory) }
     // A program that is refused is refused so, but for a fault before it and for want of memory.
-    ensures refuses { (j : Job) → AsksFor words.now j → F.tells → (r : Refusal) → IsRefusedJob (F.store files.old).bytes j r
+    ensures refuses { (j : Job) → AsksFor words.now j → F.tells → (r : Refusal) →
+        IsRefusedJob (F.store files.old).bytes j r
         → ¬ Rose (F.faults files.old) (F.faults files.new) → (result ≡ is.Program r) ⊎ (result ≡ is.Memory) }
 {
     let status = job(alloc, words, files, out);

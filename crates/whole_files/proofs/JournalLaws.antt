@@ -1,18 +1,17 @@
 -- Laws of what journals say.
-use Rattle.std.proofs.Common.{◌≡◌, ◌≢◌, ◌==◌, ◌≤◌, ℕ, Bool, true, false, if◌then◌else◌, List, [], ◌∷◌, ◌++◌, Option, Some, None, Result, Ok, Err, All, IsErrOf, refl, sym, ap, subst, ◌∙◌, arith, ◌↔◌, ◌⊎◌, inl, inr}
-use Rattle.std.proofs.lemmas.Bool.{ne_eqb, false≢true}
-use Rattle.std.proofs.lemmas.List.{append-nil}
+use Rattle.std.proofs.Common.{◌≡◌, ◌≢◌, ◌==◌, ℕ, true, false, if◌then◌else◌, List, [], ◌∷◌, ◌++◌, Option, Some, None, Result, Ok, Err, All, IsErrOf, refl, sym, subst, arith, ◌↔◌}
+use Rattle.std.proofs.lemmas.Bool.{false≢true}
 use Rattle.std.proofs.lemmas.List.Elements.{All-append, All-cons, All-nil, All-head, All-tail, All-weaker}
 use Rattle.soda_io.specs.declared.error.IoErr.{IoErr}
 use Rattle.soda_io.specs.declared.error.IoErr.TheVariants as io
 use Rattle.soda_io.specs.declared.call.FileCall.{FileCall}
 use Rattle.soda_io.specs.declared.call.FileCall.TheVariants.{Open, Create, Read, Write}
-use Rattle.soda_io.specs.Store.{named, NamesGiven}
 use Rattle.whole_files.specs.declared.reading.ReadFail.{ReadFail}
 use Rattle.whole_files.specs.declared.reading.ReadFail.TheVariants as fail
 use Rattle.whole_files.specs.Journal.{IsFailed, IsReadBy, IsWriteBy, IsGot, IsTaken, gots, NoneAfterEnd, NoneAfterFailed, EndsFailed, ReadsOf, WritesOf}
 use Rattle.whole_files.specs.Reading.{last_read}
 use Rattle.whole_files.specs.Writing.{last_write}
+use Rattle.whole_files.proofs.CallerLemmas.{gots-append}
 
 -- a call that didn't fail
 abbrev pub NotFailed : FileCall → Type 0
@@ -22,37 +21,17 @@ NotFailed e = IsFailed e → ⊥
 abbrev pub NotEnd : Option ℕ → Type 0
 NotEnd g = g ≡ Some 0 → ⊥
 
-pub gots-append : (id : ℕ) (xs ys : List FileCall) → gots id (xs ++ ys) ≡ gots id xs ++ gots id ys
-gots-append id [] ys = refl
-gots-append id (Open name i ∷ xs) ys = gots-append id xs ys
-gots-append id (Create name i ∷ xs) ys = gots-append id xs ys
-gots-append id (Read i asked got ∷ xs) ys =
-    let rest = gots-append id xs ys in
-    elim (i == id) as (λ b. (if b then (got ∷ gots id (xs ++ ys)) else gots id (xs ++ ys)) ≡ (if b then (got ∷ gots id xs) else gots id xs) ++ gots id ys) [
-      | true ↦ ap (λ (gs : List (Option ℕ)). got ∷ gs) rest
-      | false ↦ rest
-    ]
-gots-append id (Write i given taken ∷ xs) ys = gots-append id xs ys
-
--- entries without a read by the id show none
-pub gots_none : (P : FileCall → Type 0) (id : ℕ) → ((i asked : ℕ) (got : Option ℕ) → P (Read i asked got) → i ≢ id) → (es : List FileCall) → All P es → gots id es ≡ []
-gots_none P id apart [] all = refl
-gots_none P id apart (Open name i ∷ es) all = gots_none P id apart es (All-tail P (Open name i) es all)
-gots_none P id apart (Create name i ∷ es) all = gots_none P id apart es (All-tail P (Create name i) es all)
-gots_none P id apart (Read i asked got ∷ es) all =
-    let rest = gots_none P id apart es (All-tail P (Read i asked got) es all) in
-    let differ : (i == id) ≡ false = ne_eqb i id (apart i asked got (All-head P (Read i asked got) es all)) in
-    ap (λ (b : Bool). if b then (got ∷ gots id es) else gots id es) differ ∙ rest
-gots_none P id apart (Write i given taken ∷ es) all = gots_none P id apart es (All-tail P (Write i given taken) es all)
-
+-- behind entries that are no end
 pub none_after_end-append : (xs ys : List (Option ℕ)) → All NotEnd xs → NoneAfterEnd ys → NoneAfterEnd (xs ++ ys)
 none_after_end-append [] ys all end = end
 none_after_end-append (x ∷ xs) ys all end = (λ is. absurd (All-head NotEnd x xs all is), none_after_end-append xs ys (All-tail NotEnd x xs all) end)
 
+-- behind entries that didn't fail
 pub none_after_failed-append : (xs ys : List FileCall) → All NotFailed xs → NoneAfterFailed ys → NoneAfterFailed (xs ++ ys)
 none_after_failed-append [] ys all last = last
 none_after_failed-append (x ∷ xs) ys all last = (λ is. absurd (All-head NotFailed x xs all is), none_after_failed-append xs ys (All-tail NotFailed x xs all) last)
 
+-- a list with a failed entry last ends failed
 pub ends_failed-push : (xs : List FileCall) (e : FileCall) → IsFailed e → EndsFailed (xs ++ e ∷ [])
 ends_failed-push [] e is = is
 ends_failed-push (x ∷ []) e is = is
@@ -64,38 +43,11 @@ failed_of_push [] e ends = ends
 failed_of_push (x ∷ []) e ends = ends
 failed_of_push (x ∷ y ∷ ys) e ends = failed_of_push (y ∷ ys) e ends
 
+-- entries that didn't fail don't end failed
 pub none_fails : (xs : List FileCall) → All NotFailed xs → EndsFailed xs → ⊥
 none_fails [] all ends = ends
 none_fails (x ∷ []) all ends = All-head NotFailed x [] all ends
 none_fails (x ∷ y ∷ ys) all ends = none_fails (y ∷ ys) (All-tail NotFailed x (y ∷ ys) all) ends
-
--- where none follows a failed one and the last isn't one, none failed
-pub not_failed_of : (es : List FileCall) → NoneAfterFailed es → (EndsFailed es → ⊥) → All NotFailed es
-not_failed_of [] last ends = All-nil NotFailed
-not_failed_of (e ∷ []) last ends = All-cons NotFailed e [] ends (All-nil NotFailed)
-not_failed_of (e ∷ f ∷ es) last ends =
-    let here : NotFailed e = λ is. let none : f ∷ es ≡ [] = last.0 is in absurd (cc) in
-    All-cons NotFailed e (f ∷ es) here (not_failed_of (f ∷ es) last.1 ends)
-
--- reads by one id show none of another, and writes show none at all
-pub gots_of_other : (id k : ℕ) → k ≢ id → (es : List FileCall) → All (IsReadBy id) es → gots k es ≡ []
-gots_of_other id k ne es own = gots_none (IsReadBy id) k (λ i asked got same is. ne (sym is ∙ same)) es own
-
-pub gots_of_writes : (id k : ℕ) → (es : List FileCall) → All (IsWriteBy id) es → gots k es ≡ []
-gots_of_writes id k es own = gots_none (IsWriteBy id) k (λ i asked got is. absurd is) es own
-
--- a journal shows no read of an id that wasn't given
-pub gots_fresh : (given id : ℕ) → given ≤ id → (es : List FileCall) → NamesGiven given es → gots id es ≡ []
-gots_fresh given id fresh es known = gots_none (λ e. named e ≤ given) id (λ i asked got le is. absurd (omega arith)) es known
-
--- two parts of which at most one shows reads of an id
-pub none_after_end_apart : (id : ℕ) (xs ys : List FileCall) → NoneAfterEnd (gots id xs) → NoneAfterEnd (gots id ys) → (gots id xs ≡ []) ⊎ (gots id ys ≡ []) → NoneAfterEnd (gots id (xs ++ ys))
-none_after_end_apart id xs ys first second apart =
-    let P : List (Option ℕ) → Type 0 = λ gs. NoneAfterEnd gs in
-    subst P (sym (gots-append id xs ys)) (elim apart [
-      | inl none ↦ let Q : List (Option ℕ) → Type 0 = λ gs. NoneAfterEnd (gs ++ gots id ys) in subst Q (sym none) second
-      | inr none ↦ let Q : List (Option ℕ) → Type 0 = λ gs. NoneAfterEnd (gots id xs ++ gs) in subst Q (sym none) (subst P (sym (append-nil (gots id xs))) first)
-    ])
 
 -- reads that got some bytes
 got_own : (id : ℕ) (e : FileCall) → IsGot id e → IsReadBy id e
@@ -105,6 +57,7 @@ got_own id (Read i asked (Some n)) got = got.0
 got_own id (Read i asked None) got = absurd got
 got_own id (Write i given taken) got = got
 
+-- a read that got some bytes didn't fail
 pub got_not_failed : (id : ℕ) (e : FileCall) → IsGot id e → NotFailed e
 got_not_failed id (Open name i) got = absurd got
 got_not_failed id (Create name i) got = absurd got
@@ -147,12 +100,14 @@ one_read id asked got = record {
   end = elim (id == id) as (λ b. NoneAfterEnd (if b then (got ∷ []) else [])) [ true ↦ (λ is. refl, tt) | false ↦ tt ];
 }
 
+-- the last read by itself
 pub last_reads : (id asked : ℕ) (r : Result (List ℕ) ReadFail) → ReadsOf id (last_read id asked r)
 last_reads id asked (Ok bytes) = one_read id asked (Some 0)
 last_reads id asked (Err fail.Failed) = one_read id asked None
 last_reads id asked (Err fail.TooLong) = no_reads id
 last_reads id asked (Err fail.Memory) = no_reads id
 
+-- the answer is `Failed` exactly where the last read failed
 pub last_read_fails : (id asked : ℕ) (es : List FileCall) → All (IsGot id) es → (r : Result (List ℕ) ReadFail) → IsErrOf r fail.Failed ↔ EndsFailed (es ++ last_read id asked r)
 last_read_fails id asked es got (Ok bytes) = (λ is. absurd (cc), λ ends. absurd (false≢true (sym (failed_of_push es (Read id asked (Some 0)) ends))))
 last_read_fails id asked es got (Err fail.Failed) = (λ is. ends_failed-push es (Read id asked None) refl, λ ends. refl)
@@ -167,6 +122,7 @@ taken_own id (Read i asked got) taken = taken
 taken_own id (Write i given (Some n)) taken = taken.0
 taken_own id (Write i given None) taken = absurd taken
 
+-- a write that took some bytes didn't fail
 pub taken_not_failed : (id : ℕ) (e : FileCall) → IsTaken id e → NotFailed e
 taken_not_failed id (Open name i) taken = absurd taken
 taken_not_failed id (Create name i) taken = absurd taken
@@ -184,11 +140,13 @@ writes_of id es last taken w = record {
 no_writes : (id : ℕ) → WritesOf id []
 no_writes id = record { own = All-nil (IsWriteBy id); failed = tt }
 
+-- the last write by itself
 pub last_writes : (id given : ℕ) (r : Result (Unit {0}) IoErr) → WritesOf id (last_write id given r)
 last_writes id given (Ok u) = no_writes id
 last_writes id given (Err io.Failed) = record { own = All-cons (IsWriteBy id) (Write id given None) [] refl (All-nil (IsWriteBy id)); failed = (λ is. refl, tt) }
 last_writes id given (Err io.Memory) = no_writes id
 
+-- the answer is `Failed` exactly where the last write failed
 pub last_write_fails : (id given : ℕ) (es : List FileCall) → All (IsTaken id) es → (r : Result (Unit {0}) IoErr) → IsErrOf r io.Failed ↔ EndsFailed (es ++ last_write id given r)
 last_write_fails id given es taken (Ok u) = (λ is. absurd (cc), λ ends. absurd (none_fails (es ++ []) (All-append NotFailed es [] (All-weaker _ _ (taken_not_failed id) es taken) (All-nil NotFailed)) ends))
 last_write_fails id given es taken (Err io.Failed) = (λ is. ends_failed-push es (Write id given None) refl, λ ends. refl)

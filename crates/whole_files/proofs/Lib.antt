@@ -1,3 +1,4 @@
+pub mod CallerLemmas
 pub mod JournalLaws
 pub mod ReadSteps
 pub mod WriteSteps

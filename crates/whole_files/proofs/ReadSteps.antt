@@ -10,7 +10,8 @@ use Rattle.soda_io.specs.Store.{Store, KeepsIds, KeepsBytes, content, left, Read
 use Rattle.whole_files.specs.declared.reading.ReadFail.{ReadFail}
 use Rattle.whole_files.specs.declared.reading.ReadFail.TheVariants as fail
 use Rattle.whole_files.specs.Journal.{IsGot}
-use Rattle.whole_files.specs.Reading.{Took, ReadsWhole, TakesUpTo, last_read}
+use Rattle.whole_files.specs.Reading.{ReadsWhole, TakesUpTo, last_read}
+use Rattle.whole_files.specs.Machine.SoFar.{Took}
 use Rattle.whole_files.proofs.JournalLaws.{reads_of, last_reads, last_read_fails}
 
 -- the clause of a call, at a number and a result that are equal

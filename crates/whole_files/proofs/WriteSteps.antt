@@ -8,7 +8,8 @@ use Rattle.soda_io.specs.declared.call.FileCall.{FileCall}
 use Rattle.soda_io.specs.declared.call.FileCall.TheVariants.{Write}
 use Rattle.soda_io.specs.Store.{Store, Writes}
 use Rattle.whole_files.specs.Journal.{IsTaken}
-use Rattle.whole_files.specs.Writing.{Put, WritesWhole, last_write}
+use Rattle.whole_files.specs.Writing.{WritesWhole, last_write}
+use Rattle.whole_files.specs.Machine.SoFar.{Put}
 use Rattle.whole_files.proofs.JournalLaws.{writes_of, last_writes, last_write_fails}
 use Rattle.whole_files.proofs.ReadSteps.{keeps_both}
 

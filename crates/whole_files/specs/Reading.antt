@@ -9,17 +9,6 @@ use Rattle.whole_files.specs.Journal.{IsGot, EndsFailed, ReadsOf}
 use Rattle.whole_files.specs.declared.reading.ReadFail.{ReadFail}
 use Rattle.whole_files.specs.declared.reading.ReadFail.TheVariants.{TooLong, Failed, Memory}
 
--- reads by one id took these bytes, and nothing else changed
-pub record Took (given : ℕ) (old new : Store) (id : ℕ) (taken : List ℕ) : Type 0 where
-  pub ids : KeepsIds given old new
-  pub bytes : KeepsBytes old new
-  pub others : (k : ℕ) → k < given → k ≢ id → new.place k ≡ old.place k
-  pub got : left old id ≡ taken ++ left new id
-  -- the journal's new entries
-  pub entries : List FileCall
-  pub gots : All (IsGot id) entries
-  pub calls : new.calls ≡ old.calls ++ entries
-
 -- the journal's last new entry: the read at the end, or the one that failed; `asked` is the length of its buffer
 abbrev pub last_read : ℕ → ℕ → Result (List ℕ) ReadFail → List FileCall
 last_read id asked (Ok bytes) = Read id asked (Some 0) ∷ []

@@ -7,24 +7,15 @@ use Rattle.soda_io.specs.declared.call.FileCall.TheVariants.{Write}
 use Rattle.soda_io.specs.Store.{Store, KeepsIds, KeepsPlaces}
 use Rattle.whole_files.specs.Journal.{IsTaken, EndsFailed, WritesOf}
 
--- writes by one id have put the first `count` of these bytes at the end of its name, and nothing else changed
-pub record Put (given : ℕ) (old new : Store) (id count : ℕ) (bytes : List ℕ) : Type 0 where
-  pub ids : KeepsIds given old new
-  pub places : KeepsPlaces given old new
-  pub others : (n : List ℕ) → n ≢ old.name id → new.bytes n ≡ old.bytes n
-  pub own : (xs : List ℕ) → old.bytes (old.name id) ≡ Some xs → new.bytes (old.name id) ≡ Some (xs ++ take count bytes)
-  pub entries : List FileCall
-  pub takens : All (IsTaken id) entries
-  pub calls : new.calls ≡ old.calls ++ entries
-
 -- the journal's last new entry, where a write failed
 abbrev pub last_write : ℕ → ℕ → Result (Unit {0}) IoErr → List FileCall
 last_write id given (Ok u) = []
 last_write id given (Err Failed) = Write id given None ∷ []
 last_write id given (Err Memory) = []
 
--- after writes by the id that each took some bytes, all are put at Ok, and a front of them after an error
-pub record WritesWhole (given : ℕ) (old new : Store) (id : ℕ) (bytes : List ℕ) (result : Result (Unit {0}) IoErr) : Type 0 where
+-- after writes by the id that each took some bytes, all are put at Ok, and a prefix of them after an error
+pub record WritesWhole (given : ℕ) (old new : Store) (id : ℕ) (bytes : List ℕ) (result : Result (Unit {0}) IoErr)
+    : Type 0 where
   pub ids : KeepsIds given old new
   pub places : KeepsPlaces given old new
   pub others : (n : List ℕ) → n ≢ old.name id → new.bytes n ≡ old.bytes n

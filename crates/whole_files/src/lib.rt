@@ -8,6 +8,3 @@ mod writing;
 pub use reading::{ReadFail, read_whole};
 pub use sinking::put_whole;
 pub use writing::write_whole;
-
-#[cfg(test)]
-mod tests;

@@ -40,7 +40,8 @@ pub fn read_whole<F: Files>(
     ensures short { IfOk result (λ v. length v.items ≤ most) }
     ensures whole { F.tells → IfOk result (λ v. v.items ≡ left (F.store files.old) id) }
     ensures too_long { F.tells → IsErrOf result ReadFail.TooLong → most < length (left (F.store files.old) id) }
-    ensures store { F.tells → ReadsWhole (F.given files.old) (F.store files.old) (F.store files.new) id most (items_of result) }
+    ensures store { F.tells →
+        ReadsWhole (F.given files.old) (F.store files.old) (F.store files.new) id most (items_of result) }
     ensures given { F.given files.new ≡ F.given files.old }
 
     ensures later { F.faults files.old ≤ F.faults files.new }

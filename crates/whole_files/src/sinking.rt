@@ -4,7 +4,7 @@ ghost use Rattle.whole_files.specs.Sinking.{TakesFront};
 
 use soda_io::{IoErr, Sink};
 
-/// Puts all the bytes into a sink. After an error it has taken a front of them, and is asked nothing more.
+/// Puts all the bytes into a sink. After an error it has taken a prefix of them, and is asked nothing more.
 pub fn put_whole<S: Sink>(sink: &mut S, bytes: &[u8]) -> Result<(), IoErr>
     ensures taken { S.tells → TakesFront (S.taken sink.old) (S.taken sink.new) bytes.now result }
     ensures cause { HasCause (S.faults sink.old) (S.faults sink.new) result }

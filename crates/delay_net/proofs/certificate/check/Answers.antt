@@ -1,6 +1,6 @@
 use Rattle.std.proofs.Common.{rules}
 use Rattle.delay_net.specs.Certificate.{Fits}
-use Rattle.delay_net.proofs.Duality.{fitting_is_least}
+use Rattle.delay_net.proofs.CallerLemmas.{fitting_is_least}
 use Rattle.delay_net.proofs.certificate.check.Goals as goal
 
 pub returns-then-has_value-clause-least : goal.returns-then-has_value-clause-least

@@ -2,6 +2,7 @@ use Rattle.std.proofs.Common.{ℕ, ◌≡◌, ◌<◌, ◌^◌, ℤ, pos, neg_�
 use Rattle.std.specs.Int.{w128}
 use mir.Val.{SFits, to_z, of_z}
 use Rattle.std.proofs.lemmas.Int.{ints, to_z-of_z}
+use Rattle.delay_net.specs.Limits.{most_offset}
 use Rattle.delay_net.proofs.Steps.{product_within}
 use Rattle.delay_net.proofs.certificate.product.Goals as goal
 
@@ -15,7 +16,7 @@ computed_is n z small fits =
     let offset : to_z w128 (of_z w128 (to_z w64 (of_z w64 z))) ≡ z = omega (arith, ints) in
     ap (λ a. a *ℤ to_z w128 (of_z w128 (to_z w64 (of_z w64 z)))) number ∙ ap (λ b. pos n *ℤ b) offset
 
-computed_fits : (n : ℕ) (z : ℤ) → n < 2 ^ 32 → SFits w64 z → neg_ℤ (pos (2 ^ 42)) ≤ℤ z → z ≤ℤ pos (2 ^ 42) → SFits w128 (computed n z)
+computed_fits : (n : ℕ) (z : ℤ) → n < 2 ^ 32 → SFits w64 z → neg_ℤ (pos most_offset) ≤ℤ z → z ≤ℤ pos most_offset → SFits w128 (computed n z)
 computed_fits n z small fits from to =
     let within = product_within n z small from to in
     let product : SFits w128 (pos n *ℤ z) = grind (arith, ints) in
@@ -24,7 +25,7 @@ computed_fits n z small fits from to =
 pub overflow_mul-result : goal.overflow_mul-result
 overflow_mul-result c = computed_fits c.args.number c.args.offset (omega arith) c.ranges.offset c.requires.from c.requires.to
 
-told : (n : ℕ) (z : ℤ) → n < 2 ^ 32 → SFits w64 z → neg_ℤ (pos (2 ^ 42)) ≤ℤ z → z ≤ℤ pos (2 ^ 42) → to_z w128 (of_z w128 (computed n z)) ≡ pos n *ℤ z
+told : (n : ℕ) (z : ℤ) → n < 2 ^ 32 → SFits w64 z → neg_ℤ (pos most_offset) ≤ℤ z → z ≤ℤ pos most_offset → to_z w128 (of_z w128 (computed n z)) ≡ pos n *ℤ z
 told n z small fits from to =
     to_z-of_z w128 (computed n z) (computed_fits n z small fits from to) ∙ computed_is n z small fits
 

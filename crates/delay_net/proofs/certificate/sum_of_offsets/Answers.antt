@@ -15,7 +15,8 @@ loop-i-preserved c =
     c.product-sum.ensures.value ∙ ap (λ z. pos (get_or numbers i 0) *ℤ z) (to_z-of_z w64 read.offset short) in
     let step = sum_of_offsets_step reads numbers i (record { reader = 0; of = 0; offset = pos 0 }) c.loop-i-test.true (omega (arith, c.requires.one_each)) in
     record {
-      told = omega (arith, ints, step, product, c.loop-i.invariant.told, c.loop-i.invariant.low, c.loop-i.invariant.high, c.product-sum.ensures.low, c.product-sum.ensures.high);
+      told = omega
+          (arith, ints, step, product, c.loop-i.invariant.told, c.loop-i.invariant.low, c.loop-i.invariant.high, c.product-sum.ensures.low, c.product-sum.ensures.high);
       low = omega (arith, ints, c.loop-i.invariant.low, c.loop-i.invariant.high, c.product-sum.ensures.low, c.product-sum.ensures.high);
       high = omega (arith, ints, c.loop-i.invariant.low, c.loop-i.invariant.high, c.product-sum.ensures.low, c.product-sum.ensures.high);
     }

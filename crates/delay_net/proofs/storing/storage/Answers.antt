@@ -1,8 +1,9 @@
 use Rattle.std.proofs.Common.{◌≡◌, ℕ, ◌+◌, ◌*◌, ◌≤◌, ◌<◌, ◌^◌, length, get_or, slice_index, arith, rules, ap, ◌∙◌, sym}
 use Rattle.std.proofs.Math.Nat.{mul-le-mul}
+use Rattle.delay_net.specs.Limits.{most_tensors}
 use Rattle.delay_net.specs.Sums.{sum_below}
 use Rattle.delay_net.specs.Windows.{storage_of, total_storage}
-use Rattle.delay_net.proofs.SumLemmas.{sum_below_none, sum_below_more}
+use Rattle.delay_net.proofs.CallerLemmas.{sum_below_none, sum_below_more}
 use Rattle.delay_net.proofs.storing.storage.Goals as goal
 
 pub loop-tensor-init : goal.loop-tensor-init
@@ -15,9 +16,10 @@ loop-tensor-preserved c =
     let bits_of : ℕ → ℕ = λ t. slice_index net.weights t * storage_of net.reads c.args.delays.now t in
     let width = get_or c.weights-width-items.result.now i 0 in
     let cells = get_or c.storage_of_each-greatest.result i 0 in
-    let in_table : i < 512 = search rules in
+    let in_table : i < most_tensors = search rules in
     let term : width * cells ≡ bits_of i =
-    ap (λ ws. get_or ws i 0 * cells) c.weights-width-items.ensures.value ∙ ap (λ n. get_or net.weights i 0 * n) (c.storage_of_each-greatest.ensures i in_table) in
+    ap (λ ws. get_or ws i 0 * cells) c.weights-width-items.ensures.value
+    ∙ ap (λ n. get_or net.weights i 0 * n) (c.storage_of_each-greatest.ensures i in_table) in
     let narrow : width ≤ 2 ^ 8 = search rules in
     let short : cells ≤ 2 ^ 64 = search rules in
     record {

@@ -6,7 +6,8 @@ use Rattle.delay_net.proofs.timing.meets.Goals as goal
 
 pub loop-read-preserved : goal.loop-read-preserved
 loop-read-preserved c =
-    All-more (MeetsWindow c.args.delays.now) c.reads-read-items.result.now c.loop-read.read-index (record { reader = 0; of = 0; offset = pos 0 }) c.loop-read-test.true c.loop-read.invariant (c.if-not-meets_window.ensures.0 refl)
+    All-more (MeetsWindow c.args.delays.now) c.reads-read-items.result.now c.loop-read.read-index
+    (record { reader = 0; of = 0; offset = pos 0 }) c.loop-read-test.true c.loop-read.invariant (c.if-not-meets_window.ensures.0 refl)
 
 pub returns : goal.returns
 returns c =

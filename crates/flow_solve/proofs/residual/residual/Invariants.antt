@@ -1,5 +1,5 @@
 use Rattle.std.proofs.Common.{◌≡◌, ◌++◌, drop}
-use Rattle.flow_solve.specs.Residual.{residual}
+use Rattle.flow_solve.specs.machine.Residual.{residual}
 use Rattle.flow_solve.proofs.residual.residual.Given as goal
 
 -- the arcs so far, and those of the reads that are left, are all

@@ -1,5 +1,5 @@
 use Rattle.std.proofs.Common.{length}
-use Rattle.flow_solve.specs.Steps.{AreMarks}
+use Rattle.flow_solve.specs.machine.Steps.{AreMarks}
 use Rattle.flow_solve.proofs.search.search.Given as goal
 
 -- the marks stay marks

@@ -6,6 +6,7 @@ use Rattle.flow_solve.proofs.steps.add_steps.Goals as goal
 pub loop-step-preserved : goal.loop-step-preserved
 loop-step-preserved c = record {
   steps = λ reads before four.
-      steps_push reads c.loop-step.steps.items c.push.new.self.items _ c.in-Ok.ensures.items (c.loop-step.invariant.steps reads before four) (four c.loop-step.step-index _ c.loop-step-test.true);
-  count = omega (arith, ap length c.in-Ok.ensures.items, length-append {A = Step}, c.loop-step.invariant.count);
+      steps_push reads c.loop-step.steps.items c.push.new.self.items _ c.in_ok-push.ensures.items (c.loop-step.invariant.steps reads before four)
+      (four c.loop-step.step-index _ c.loop-step-test.true);
+  count = omega (arith, ap length c.in_ok-push.ensures.items, length-append {A = Step}, c.loop-step.invariant.count);
 }

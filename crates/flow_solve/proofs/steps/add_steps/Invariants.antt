@@ -1,6 +1,6 @@
 use Rattle.std.proofs.Common.{◌≡◌, ℕ, ◌+◌, length}
 use Rattle.std.specs.List.{All}
-use Rattle.flow_solve.specs.Steps.{IsStep}
+use Rattle.flow_solve.specs.machine.Steps.{IsStep}
 use Rattle.flow_solve.proofs.steps.add_steps.Given as goal
 
 -- only steps are added

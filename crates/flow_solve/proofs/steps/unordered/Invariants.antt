@@ -1,6 +1,6 @@
 use Rattle.std.proofs.Common.{◌≤◌, ◌*◌, length}
 use Rattle.std.specs.List.{All}
-use Rattle.flow_solve.specs.Steps.{IsStep}
+use Rattle.flow_solve.specs.machine.Steps.{IsStep}
 use Rattle.flow_solve.proofs.steps.unordered.Given as goal
 
 -- only steps are added, four a read

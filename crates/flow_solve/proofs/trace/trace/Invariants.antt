@@ -1,5 +1,5 @@
 use Rattle.std.proofs.Common.{length, vec_len}
-use Rattle.flow_solve.specs.Rounds.{at}
+use Rattle.flow_solve.specs.machine.Rounds.{at}
 use Rattle.flow_solve.proofs.TraceLemmas.{Traces}
 use Rattle.flow_solve.proofs.trace.trace.Given as goal
 

@@ -17,4 +17,5 @@ returns-then-turn-firings_of-clause-event c =
 
 pub returns-else-turn-firings_of-clause-value : goal.returns-else-turn-firings_of-clause-value
 returns-else-turn-firings_of-clause-value c =
-    cannot c.args.net.now c.args.counts.now.firings c.args.counts.now.state c.args.module c.turn-turn.result _ c.turn-turn.ensures.value (omega (arith, c.if-turn-firings_of.false, c.firings_of.ensures.value)) (le-ltb _ _ c.if-turn-firings_of.false)
+    cannot c.args.net.now c.args.counts.now.firings c.args.counts.now.state c.args.module c.turn-turn.result _ c.turn-turn.ensures.value
+    (omega (arith, c.if-turn-firings_of.false, c.firings_of.ensures.value)) (le-ltb _ _ c.if-turn-firings_of.false)

@@ -36,7 +36,8 @@ returns-clause-lawful c =
     let m = c.args.module in
     let lawful = lawful_on old.network net old.firings old.state c.requires.started c.turn-turn.ensures.lawful in
     let can = can_parts net old.firings old.state m c.requires.possible in
-    subst (λ (x : Machine). IsLawful net x.firings x.state) (sym (returns-clause-after c)) (IsLawful-after net old.firings old.state m lawful c.requires.known can.0 can.1)
+    subst (λ (x : Machine). IsLawful net x.firings x.state) (sym (returns-clause-after c))
+    (IsLawful-after net old.firings old.state m lawful c.requires.known can.0 can.1)
 
 pub returns-clause-others : goal.returns-clause-others
 returns-clause-others c =

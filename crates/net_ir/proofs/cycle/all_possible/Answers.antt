@@ -12,4 +12,5 @@ returns-then-takes_possible c =
 
 pub returns : goal.returns
 returns c =
-    events_possible c.args.net.now c.args.counts.now.state c.args.module c.args.firing false (list_all (λ n. is_possible c.args.net.now c.args.counts.now.state (Send n)) (exits c.args.net.now c.args.module)) c.if-takes_possible.ensures refl
+    events_possible c.args.net.now c.args.counts.now.state c.args.module c.args.firing false
+    (list_all (λ n. is_possible c.args.net.now c.args.counts.now.state (Send n)) (exits c.args.net.now c.args.module)) c.if-takes_possible.ensures refl

@@ -27,15 +27,29 @@ loop-module-preserved c =
     let m = c.loop-module.module in
     let here = met net old.firings stalled old.state m in
     let now : Machine = record { network = old.network; firings = old.firings; state = here } in
-    let state = subst (λ (x : Machine). c.visit-one.new.counts ≡ record { network = x.network; firings = x.firings; state = visit net x.firings stalled x.state m }) c.loop-module.invariant.counts c.visit-one.ensures.state in
-    let fired = subst (λ (x : Machine). c.visit-one.result.fired ≡ cond (fires net x.firings stalled x.state m) 1 0) c.loop-module.invariant.counts c.visit-one.ensures.fired in
-    let held = subst (λ (x : Machine). c.visit-one.result.held ≡ cond (has_firing net x.firings x.state m && not (fires net x.firings stalled x.state m)) 1 0) c.loop-module.invariant.counts c.visit-one.ensures.held in
+    let state = subst (λ (x : Machine). c.visit-one.new.counts
+    ≡ record {
+      network = x.network;
+      firings = x.firings;
+      state = visit net x.firings stalled x.state m;
+    }) c.loop-module.invariant.counts c.visit-one.ensures.state in
+    let fired = subst (λ (x : Machine). c.visit-one.result.fired
+    ≡ cond (fires net x.firings stalled x.state m) 1 0) c.loop-module.invariant.counts c.visit-one.ensures.fired in
+    let held = subst (λ (x : Machine). c.visit-one.result.held
+    ≡ cond (has_firing net x.firings x.state m && not (fires net x.firings stalled x.state m)) 1 0) c.loop-module.invariant.counts c.visit-one.ensures.held in
     record {
-      counts = state ∙ ap (λ s. record { network = old.network; firings = old.firings; state = s }) (met_one net old.firings c.module_count-module-end.ensures.network stalled old.state m);
+      counts = state ∙ ap (λ s. record { network = old.network; firings = old.firings; state = s })
+          (met_one net old.firings c.module_count-module-end.ensures.network stalled old.state m);
       fired = omega (arith, fired, c.loop-module.invariant.fired, fired_one net old.firings c.module_count-module-end.ensures.network stalled old.state m);
       held = omega (arith, held, c.loop-module.invariant.held, held_one net old.firings c.module_count-module-end.ensures.network stalled old.state m);
       few_fired = omega (arith, fired, c.loop-module.invariant.few_fired, at_most (fires net old.firings stalled here m));
-      few_held = omega (arith, held, c.loop-module.invariant.few_held, at_most (has_firing net old.firings here m && not (fires net old.firings stalled here m)));
+      few_held = omega (
+        arith,
+        held,
+        c.loop-module.invariant.few_held,
+        at_most
+            (has_firing net old.firings here m && not (fires net old.firings stalled here m)),
+      );
     }
 
 pub returns-clause-still_between : goal.returns-clause-still_between

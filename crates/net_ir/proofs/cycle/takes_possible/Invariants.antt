@@ -7,4 +7,5 @@ use Rattle.net_ir.proofs.cycle.takes_possible.Given as goal
 
 abbrev pub invariant-loop-queue : goal.invariant-loop-queue
 invariant-loop-queue l =
-    list_all (λ n. is_possible l.net l.counts.state (Take n)) (ready l.net.queues l.firing l.ports) ≡ list_all (λ n. is_possible l.net l.counts.state (Take n)) (ready l.net.queues l.firing (drop l.queue-index l.ports))
+    list_all (λ n. is_possible l.net l.counts.state (Take n)) (ready l.net.queues l.firing l.ports)
+    ≡ list_all (λ n. is_possible l.net l.counts.state (Take n)) (ready l.net.queues l.firing (drop l.queue-index l.ports))

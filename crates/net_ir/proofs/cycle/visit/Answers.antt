@@ -18,7 +18,8 @@ set_turn-requires-clause-lawful c =
     let old : Machine = c.args.counts.now in
     let m = c.args.module in
     let lawful = lawful_on old.network net old.firings old.state c.requires.started c.turn-turn.ensures.lawful in
-    let new = fired_lawful net old.firings c.firings_of-firings.ensures.network c.args.stalled.now old.state m lawful c.requires.between c.requires.known (sym c.if-fires.ensures) in
+    let new = fired_lawful net old.firings c.firings_of-firings.ensures.network c.args.stalled.now old.state m lawful c.requires.between c.requires.known
+    (sym c.if-fires.ensures) in
     subst (λ (t : Turn). IsLawful old.network old.firings (set old.state m (fired_wholly t))) (sym c.turn-turn.ensures.value)
     (lawful_on net old.network old.firings _ (sym c.requires.started) new)
 
@@ -47,4 +48,5 @@ returns-then-fires-clause-still_between c =
     let m = c.args.module in
     let lawful = lawful_on old.network net old.firings old.state c.requires.started c.turn-turn.ensures.lawful in
     subst (λ (x : Machine). IsBetween x.state) (sym (returns-then-fires-clause-state c))
-    (IsBetween-visit net old.firings c.firings_of-firings.ensures.network c.args.stalled.now old.state m (omega (arith, lawful.whole, c.requires.known)) c.requires.between)
+    (IsBetween-visit net old.firings c.firings_of-firings.ensures.network c.args.stalled.now old.state m
+    (omega (arith, lawful.whole, c.requires.known)) c.requires.between)

@@ -13,11 +13,13 @@ returns-then-left-eq0 c =
 pub returns-then-other-queue : goal.returns-then-other-queue
 returns-then-other-queue c =
     sent_is c.args.net.now c.args.module c.args.turn c.args.queue c.exits-sends.result.now c.saturating_sub-left.result c.take_count.result _ c.exits-sends.ensures.value c.take_count.ensures c.saturating_sub-left.ensures
-    (c.loop-other.invariant ∙ found_here c.args.queue c.exits-sends.result.now c.loop-other.other-index c.loop-other.left c.loop-other-test.true c.if-left-eq0.false c.if-other-queue.true)
+    (c.loop-other.invariant
+    ∙ found_here c.args.queue c.exits-sends.result.now c.loop-other.other-index c.loop-other.left c.loop-other-test.true c.if-left-eq0.false c.if-other-queue.true)
 
 pub loop-other-preserved : goal.loop-other-preserved
 loop-other-preserved c =
-    c.loop-other.invariant ∙ passed_here c.args.queue c.exits-sends.result.now c.loop-other.other-index c.loop-other.left c.loop-other-test.true c.if-left-eq0.false c.if-other-queue.false
+    c.loop-other.invariant
+    ∙ passed_here c.args.queue c.exits-sends.result.now c.loop-other.other-index c.loop-other.left c.loop-other-test.true c.if-left-eq0.false c.if-other-queue.false
 
 pub returns : goal.returns
 returns c =

@@ -1,4 +1,4 @@
-use Rattle.net_ir.specs.Table.{IsListed}
+use Rattle.net_ir.specs.machine.Table.{IsListed}
 use Rattle.net_ir.proofs.network.ends_of.Given as goal
 
 abbrev pub invariant-loop-number : goal.invariant-loop-number

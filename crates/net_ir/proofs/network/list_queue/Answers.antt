@@ -14,8 +14,8 @@ put_by_port-requires-clause-others c =
     let known : All (λ n. n < c.args.number) e.entrances.items = subst (All (λ n. n < c.args.number)) (sym same) (entrances_known queues t c.args.number) in
     λ k d h. omega (arith, known k d h)
 
-pub returns-in-Ok : goal.returns-in-Ok
-returns-in-Ok c =
+pub returns : goal.returns
+returns c =
     let was : Ends = c.index_mut-to.result.now in
     let from : Ends = c.index_mut-from.result.now in
     listed_further c.args.queues.now c.args.ends.now.items c.args.number
@@ -23,4 +23,4 @@ returns-in-Ok c =
     from (record { entrances = from.entrances; exits = c.push.new.self })
     c.requires.listed c.requires.to c.requires.from
     c.index_mut-to.ensures.value c.in_ok-put_by_port.ensures refl
-    c.index_mut-from.ensures.value refl c.in-Ok.ensures.items
+    c.index_mut-from.ensures.value refl c.in_ok-push.ensures.items

@@ -14,7 +14,8 @@ returns-clause-relation c =
     record {
       rising = rw is (IsStrictlyIncreasing-dedup _ c.sort_unstable.ensures.sorted);
       each = λ tap. (
-        λ h. subst (λ (xs : List ℕ). Contains xs tap) c.in_ok-taps.ensures (Contains-permutation _ _ tap (IsPermutation-sym _ _ moved) (Contains-from_dedup _ _ tap (rw is at h))),
+        λ h. subst (λ (xs : List ℕ). Contains xs tap) c.in_ok-taps.ensures
+            (Contains-permutation _ _ tap (IsPermutation-sym _ _ moved) (Contains-from_dedup _ _ tap (rw is at h))),
         λ h. rw is (Contains-dedup_nat _ tap (Contains-permutation _ _ tap moved (subst (λ (xs : List ℕ). Contains xs tap) (sym c.in_ok-taps.ensures) h))),
       );
     }

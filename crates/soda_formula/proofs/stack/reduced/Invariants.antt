@@ -1,7 +1,7 @@
 use Rattle.std.proofs.Common.{◌≡◌, length}
-use Rattle.soda_formula.specs.Machine.{reduce}
+use Rattle.soda_formula.specs.machine.Steps.{reduce}
 use Rattle.soda_formula.specs.Tree.{term_of}
-use Rattle.soda_formula.specs.Views.{frames_of}
+use Rattle.soda_formula.specs.machine.Views.{frames_of}
 use Rattle.soda_formula.proofs.stack.reduced.Given as goal
 
 abbrev pub invariant-loop-larger : goal.invariant-loop-larger

@@ -1,6 +1,6 @@
 use Rattle.std.proofs.Common.{sym, subst, map, arith, drop, length-drop, ◌+◌}
 use Rattle.std.proofs.lemmas.List.{take_rest}
-use Rattle.soda_syntax.specs.Pieces.{ReadsStatement, StopsStatement}
+use Rattle.soda_syntax.specs.machine.Pieces.{ReadsStatement, StopsStatement}
 use Rattle.soda_formula.specs.Statements.{plain_statement}
 use Rattle.soda_syntax.proofs.Chain.{Reads, reads_none}
 use Rattle.soda_syntax.proofs.Tops.{one_read, read_within, whole_syntax, refused}

@@ -2,7 +2,7 @@ use Rattle.std.proofs.Common.{◌≡◌, ◌++◌, ◌+◌, ℕ, List, length, t
 use Rattle.std.proofs.Common.{Result, Ok, Err}
 use Rattle.std.proofs.lemmas.List.{length-take}
 use Rattle.soda_io.specs.declared.error.IoErr.{IoErr}
-use Rattle.whole_files.specs.Reading.{Took}
+use Rattle.whole_files.specs.Machine.SoFar.{Took}
 use Rattle.whole_files.proofs.ReadSteps.{at, took_none, took_more, took_length, copied, stopped, failed, no_memory, at_end, whole}
 use Rattle.whole_files.proofs.reading.read_whole.Goals as goal
 

@@ -1,5 +1,5 @@
 use Rattle.std.proofs.Common.{◌≡◌, ◌≤◌, ◌+◌, ◌-◌, length, vec_len}
-use Rattle.whole_files.specs.Reading.{Took}
+use Rattle.whole_files.specs.Machine.SoFar.{Took}
 use Rattle.whole_files.proofs.reading.read_whole.Given as goal
 
 abbrev pub invariant-loop-block : goal.invariant-loop-block

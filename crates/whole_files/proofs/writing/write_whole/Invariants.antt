@@ -1,5 +1,5 @@
 use Rattle.std.proofs.Common.{◌≡◌, ◌≤◌, ◌-◌, length}
-use Rattle.whole_files.specs.Writing.{Put}
+use Rattle.whole_files.specs.Machine.SoFar.{Put}
 use Rattle.whole_files.proofs.writing.write_whole.Given as goal
 
 abbrev pub invariant-loop-done : goal.invariant-loop-done

@@ -6,6 +6,6 @@ use Rattle.net_ir.proofs.counts.Counts.start.Goals as goal
 
 pub invariant_of-result : goal.invariant_of-result
 invariant_of-result c =
-    start_lawful c.in-Ok.modules.items c.in-Ok-from_slice.queues.items c.args.net.now.modules c.args.firings c.in_ok-turns.turns.items
-    (c.in-Ok.ensures.items ∙ c.modules.ensures.value)
+    start_lawful c.in_ok-modules.modules.items c.in_ok-queues.queues.items c.args.net.now.modules c.args.firings c.in_ok-turns.turns.items
+    (c.in_ok-modules.ensures.items ∙ c.modules.ensures.value)
     (c.in_ok-turns.ensures ∙ ap (map (λ (_ : Module). unmoved)) c.modules-2.ensures.value)

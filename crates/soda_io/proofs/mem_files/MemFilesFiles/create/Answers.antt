@@ -1,61 +1,44 @@
-use Rattle.std.proofs.Common.{◌+◌, ◌≡◌, ℕ, ◌++◌, [], ◌∷◌, List, string_bytes, length, arith, true, sym, ap, subst, ◌∙◌}
+use Rattle.std.proofs.Common.{◌+◌, ◌≡◌, ℕ, ◌∷◌, [], List, string_bytes, length, arith, true, ap, subst, ◌∙◌, Some, Ok, length-append}
 use Rattle.std.specs.Option.{is_some}
 use Rattle.soda_io.specs.declared.mem_id.MemId.{MemId}
-use Rattle.soda_io.specs.Ids.{AllHeld}
-use Rattle.soda_io.specs.Held.{held}
-use Rattle.soda_io.specs.Store.{Puts}
-use Rattle.soda_io.proofs.MemSteps.{all_held, creates_ok}
-use Rattle.soda_io.proofs.Known.{known_same, known_more}
 use Rattle.soda_io.specs.declared.call.FileCall.TheVariants.{Create}
-use Rattle.std.proofs.Common.{Some, None, length-append}
+use Rattle.soda_io.specs.Held.{held}
+use Rattle.soda_io.specs.Store.{Store, Creates, Puts}
+use Rattle.soda_io.proofs.MemSteps.{all_held, moved, creates_ok, store_of}
+use Rattle.soda_io.proofs.Known.{known_more}
 use Rattle.soda_io.proofs.mem_files.MemFilesFiles.create.Goals as goal
 
-pub invariant_of-self-in_default-reserve-2-clause-held : goal.invariant_of-self-in_default-reserve-2-clause-held
-invariant_of-self-in_default-reserve-2-clause-held c =
-    let P : List MemId → Type 0 = λ is. AllHeld is c.args.self.now.files in
-    subst P (sym c.reserve-2.ensures.items) c.args.self.now.held
-
-pub invariant_of-self-then-id-ge-MOST_IDS-clause-held : goal.invariant_of-self-then-id-ge-MOST_IDS-clause-held
-invariant_of-self-then-id-ge-MOST_IDS-clause-held c =
-    let P : List MemId → Type 0 = λ is. AllHeld is c.args.self.now.files in
-    subst P (sym c.reserve-2.ensures.items) c.args.self.now.held
-
 pub invariant_of-self-in_default-put-clause-held : goal.invariant_of-self-in_default-put-clause-held
-invariant_of-self-in_default-put-clause-held c =
-    let P : List MemId → Type 0 = λ is. AllHeld is c.put.new.files in
-    subst P (sym c.reserve-2.ensures.items) (λ k lt. c.put.ensures.none_lost _ (c.args.self.now.held k lt))
+invariant_of-self-in_default-put-clause-held c = λ k lt. c.put.ensures.none_lost _ (c.make_room.new.self.held k lt)
 
 pub invariant_of-self-2-clause-held : goal.invariant_of-self-2-clause-held
 invariant_of-self-2-clause-held c =
+    let s = c.make_room.new.self in
     let there : is_some (held c.put.new.files (string_bytes c.in-Ok-id_of.fresh.name)) ≡ true =
-    ap (λ (n : List ℕ). is_some (held c.put.new.files n)) c.in-Ok-id_of.ensures.0 ∙ ap is_some c.in-Ok-put.ensures.ok.own in
-    all_held c.args.self.now.ids.items c.push.new.self.items c.in-Ok-id_of.fresh (c.in-Ok-push.ensures.items ∙ ap (λ (is : List MemId). is ++ c.in-Ok-id_of.fresh ∷ []) c.reserve-2.ensures.items) c.args.self.now.files c.put.new.files c.args.self.now.held c.put.ensures.none_lost there
-
-pub returns-clause-store : goal.returns-clause-store
-returns-clause-store c = λ _.
-    let at_end : c.len-id.result ≡ length c.args.self.now.ids.items = omega (arith, c.len-id.ensures, c.reserve-2.ensures.len, c.args.self.now.ids.ok.0) in
-    creates_ok c.args.self.now.ids.items c.push.new.self.items c.in-Ok-id_of.fresh (c.in-Ok-push.ensures.items ∙ ap (λ (is : List MemId). is ++ c.in-Ok-id_of.fresh ∷ []) c.reserve-2.ensures.items) c.len-id.result at_end c.args.self.now.files c.put.new.files c.args.self.now.calls.items c.log.new.calls.items c.args.name.now
-    c.in-Ok-id_of.ensures.0 c.in-Ok-id_of.ensures.1 c.in-Ok-id_of.ensures.2
-    (let P : List ℕ → Type 0 = λ xs. Puts c.args.name.now xs (held c.args.self.now.files) (held c.put.new.files) in subst P c.new-empty.ensures.items c.in-Ok-put.ensures.ok)
-    (cc (c.log.ensures, c.reserve.ensures.items, c.in-Ok.ensures))
-
-same_count : (is js : List MemId) → js ≡ is → length js ≡ length is
-same_count is js same = ap (λ (ks : List MemId). length ks) same
-
-pub invariant_of-self-in_default-reserve-2-clause-known : goal.invariant_of-self-in_default-reserve-2-clause-known
-invariant_of-self-in_default-reserve-2-clause-known c = known_same _ _ _ _ (same_count _ _ c.reserve-2.ensures.items) c.reserve.ensures.items c.args.self.now.known
-
-pub invariant_of-self-then-id-ge-MOST_IDS-clause-known : goal.invariant_of-self-then-id-ge-MOST_IDS-clause-known
-invariant_of-self-then-id-ge-MOST_IDS-clause-known c =
-    let same = same_count c.args.self.now.ids.items c.reserve-2.new.self.items c.reserve-2.ensures.items in
-    known_more (length c.args.self.now.ids.items) _ c.args.self.now.calls.items _ (Create c.args.name.now None) (cc (c.fail.ensures.calls, c.reserve.ensures.items, c.in-Ok.ensures)) (omega arith) (omega arith) c.args.self.now.known
-
-pub invariant_of-self-in_default-put-clause-known : goal.invariant_of-self-in_default-put-clause-known
-invariant_of-self-in_default-put-clause-known c = known_same _ _ _ _ (same_count _ _ c.reserve-2.ensures.items) c.reserve.ensures.items c.args.self.now.known
+    ap (λ (n : List ℕ). is_some (held c.put.new.files n)) c.in-Ok-id_of.ensures.0
+    ∙ ap is_some c.in-Ok-put.ensures.ok.own in
+    all_held s.ids.items c.add_id.new.ids.items c.in-Ok-id_of.fresh c.add_id.ensures s.files c.put.new.files s.held
+    c.put.ensures.none_lost there
 
 pub invariant_of-self-2-clause-known : goal.invariant_of-self-2-clause-known
 invariant_of-self-2-clause-known c =
-    let at_end : c.len-id.result ≡ length c.args.self.now.ids.items = omega (arith, c.len-id.ensures, c.reserve-2.ensures.len, c.args.self.now.ids.ok.0) in
-    let one_more : length c.push.new.self.items ≡ length c.args.self.now.ids.items + 1 =
-    same_count _ _ c.in-Ok-push.ensures.items ∙ length-append c.reserve-2.new.self.items (c.in-Ok-id_of.fresh ∷ []) ∙ omega (arith, same_count c.args.self.now.ids.items c.reserve-2.new.self.items c.reserve-2.ensures.items) in
-    known_more (length c.args.self.now.ids.items) _ c.args.self.now.calls.items _ (Create c.args.name.now (Some c.len-id.result)) (cc (c.log.ensures, c.reserve.ensures.items, c.in-Ok.ensures)) (omega arith) (omega arith) c.args.self.now.known
+    let s = c.make_room.new.self in
+    let at_end : c.len-id.result ≡ length s.ids.items = omega (arith, c.len-id.ensures, s.ids.ok.0) in
+    let one_more : length c.add_id.new.ids.items ≡ length s.ids.items + 1 =
+    ap (λ (is : List MemId). length is) c.add_id.ensures ∙ length-append s.ids.items (c.in-Ok-id_of.fresh ∷ []) in
+    known_more (length s.ids.items) _ s.calls.items _ (Create c.args.name.now (Some c.len-id.result))
+    (cc (c.log.ensures, c.in-Ok.ensures)) (omega arith) (omega arith) s.known
+
+pub returns-clause-store : goal.returns-clause-store
+returns-clause-store c = λ _.
+    let s = c.make_room.new.self in
+    let id = c.len-id.result in
+    let at_end : id ≡ length s.ids.items = omega (arith, c.len-id.ensures, s.ids.ok.0) in
+    let Q : List ℕ → Type 0 = λ xs. Puts c.args.name.now xs (held s.files) (held c.put.new.files) in
+    let P : ℕ → Store → Type 0 = λ given t.
+    Creates given t (store_of c.put.new.files c.add_id.new.ids.items c.log.new.calls.items) c.args.name.now (Ok id) in
+    moved P _ _ _ _ _ _ c.make_room.ensures.files c.make_room.ensures.ids c.make_room.ensures.calls
+    (creates_ok s.ids.items c.add_id.new.ids.items c.in-Ok-id_of.fresh c.add_id.ensures id at_end s.files
+    c.put.new.files s.calls.items c.log.new.calls.items c.args.name.now c.in-Ok-id_of.ensures.0 c.in-Ok-id_of.ensures.1
+    c.in-Ok-id_of.ensures.2 (subst Q c.new-empty.ensures.items c.in-Ok-put.ensures.ok)
+    (cc (c.log.ensures, c.in-Ok.ensures)))

@@ -6,7 +6,8 @@ use Rattle.std.specs.Cmp.Lexicographic.{pointwise}
 use Rattle.std.specs.List.{list_any}
 use Rattle.indexmap.proofs.CallerLemmas.{insert_entry-new}
 use Rattle.soda_words.specs.Names.{is_word}
-use Rattle.soda_words.proofs.Tables.{absent, among, firsts-new, firsts-repeated}
+use Rattle.soda_words.proofs.CallerLemmas.{absent}
+use Rattle.soda_words.proofs.Tables.{among, firsts-new, firsts-repeated}
 use Rattle.soda_words.proofs.table.NameTable.add.Goals as goal
 
 pub returns-then-contains_key-clause-fresh : goal.returns-then-contains_key-clause-fresh

@@ -1,0 +1,2 @@
+/// A tensor of a made net reads at most so many times.
+pub(crate) const MOST_EACH: u32 = 32;

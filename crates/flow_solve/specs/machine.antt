@@ -1,0 +1,4 @@
+pub mod Rounds
+pub mod Residual
+pub mod Conserve
+pub mod Steps

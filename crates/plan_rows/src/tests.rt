@@ -1,0 +1,37 @@
+use crate::net_if_one;
+use delay_net::{Net, Read};
+use std::alloc::{AllocError, Global};
+use std::process::Abort;
+
+mod certificates;
+mod lanes;
+mod networks;
+mod plans;
+mod walks;
+
+// A read, as its reader, what it reads and its offset.
+type Reading = (u32, u32, i64);
+
+fn reads_of(alloc: Global, rows: &[Reading]) -> Result<Vec<Read>, AllocError> {
+    let mut reads = Vec::new(alloc);
+    for (reader, of, offset) in rows {
+        reads.push(Read {
+            reader: *reader,
+            of: *of,
+            offset: *offset,
+        })?;
+    }
+    Ok(reads)
+}
+
+// The net of a row.
+fn net_of(
+    rt: &impl Abort,
+    alloc: Global,
+    weights: &[u8],
+    rows: &[Reading],
+) -> Result<Net, AllocError> {
+    let reads = reads_of(alloc, rows)?;
+    let found = net_if_one(alloc, weights, &reads)?;
+    Ok(found.expect(rt, "a net"))
+}
