@@ -3,8 +3,6 @@
 
 mod cells;
 mod scan;
-#[cfg(test)]
-mod tests;
 mod words;
 
 pub use cells::{array_text, read_cells};

@@ -12,8 +12,3 @@ mod top;
 
 pub use status::Status;
 pub use top::execute;
-
-#[cfg(test)]
-mod narrow;
-#[cfg(test)]
-mod tests;

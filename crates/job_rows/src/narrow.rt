@@ -1,3 +1,5 @@
+//! A sink that takes few bytes at a time, and at last fails.
+
 ghost use Rattle.std.specs.Prelude.{◌<◌, ◌^◌, ⊤};
 
 use soda_io::{IoErr, Sink};

@@ -1,4 +1,6 @@
-use super::*;
+//! Rows on the words of a job, and on cells and their text.
+
+use job_parts::*;
 use std::alloc::Global;
 use std::test::Fail;
 
