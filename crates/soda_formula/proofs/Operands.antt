@@ -1,10 +1,10 @@
 -- What the machine holds stands for the tokens that it read: operands, and each token.
-use Rattle.std.proofs.Common.{append-nil, ◌≡◌, ℕ, ◌==◌, nat_lt, Bool, true, false, List, [], ◌∷◌, ◌++◌, length, codes, Option, Some, None, ℤ, pos, neg_ℤ, refl, sym, ap, subst, arith, append_assoc, length-append, if◌then◌else◌}
+use Rattle.std.proofs.Common.{append-nil, ◌≡◌, ℕ, nat_lt, Bool, true, false, List, [], ◌∷◌, ◌++◌, length, codes, Option, Some, None, ℤ, pos, neg_ℤ, refl, sym, ap, subst, arith, append_assoc, length-append, if◌then◌else◌}
 use Rattle.std.proofs.lemmas.Bool.{ltb-true}
-use Rattle.std.proofs.lemmas.Bool.Decides.{nat_tests}
 use Rattle.soda_words.specs.declared.operators.UnOp.{UnOp}
 use Rattle.soda_words.specs.declared.operators.BinOp.TheVariants.{Min, Max}
-use Rattle.soda_words.specs.Names.{behind, is_cast_word, is_word}
+use Rattle.soda_words.proofs.CallerLemmas.{is_word-same}
+use Rattle.soda_words.specs.Names.{is_cast_word, is_word}
 use Rattle.soda_words.specs.declared.symbol.Symbol.{Symbol}
 use Rattle.soda_words.specs.declared.symbol.Symbol.TheVariants.{MinusSign, OpenRound, CloseRound, OpenSquare, CloseSquare, Comma}
 use Rattle.soda_words.specs.declared.token.Placed.{Placed}
@@ -29,17 +29,6 @@ parted-more (item_before {ts = ts} {us = vs} {a = a} {others = zs} l c rest) lin
 index-more : {ts : List Placed} {is : List ℕ} → AreIndexes ts is → (o line n c : ℕ) → AreIndexes (ts ++ symbol_on o OpenSquare ∷ number_on line n ∷ symbol_on c CloseSquare ∷ []) (is ++ n ∷ [])
 index-more no_index o line n c = index_before o line n c no_index
 index-more (index_before o' l' n' c' x) o line n c = index_before o' l' n' c' (index-more x o line n c)
-
--- the word that a test of words found
-is_word-step : (p b : ℕ) (ps bs : List ℕ) (same : Bool) → (p == b) ≡ same → (let rest : Option (List ℕ) = if same then behind ps bs else None in elim rest [ None ↦ false | Some ds ↦ length ds == 0 ]) ≡ true → (is_word ps bs ≡ true → ps ≡ bs) → p ∷ ps ≡ b ∷ bs
-is_word-step p b ps bs true e h k = let d : p ≡ b = grind (arith, nat_tests) in let q = k h in cc
-is_word-step p b ps bs false e h k = cc
-
-is_word-same : (word bs : List ℕ) → is_word word bs ≡ true → word ≡ bs
-is_word-same [] [] h = refl
-is_word-same [] (b ∷ bs) h = absurd (grind (arith, nat_tests))
-is_word-same (p ∷ ps) [] h = cc
-is_word-same (p ∷ ps) (b ∷ bs) h = is_word-step p b ps bs (p == b) refl h (is_word-same ps bs)
 
 -- what a word begins, by the five tests in turn
 word-by : (w : Word) (fs : List Frame) (ts : List Placed) → Open fs ts → (a b c d e : Bool) → is_cast_word w.text ≡ a → is_word (codes "min") w.text ≡ b → is_word (codes "max") w.text ≡ c → is_word (codes "abs") w.text ≡ d → is_word (codes "select") w.text ≡ e → Describes (if a then called (in_cast w) else (if b then called (in_first Min) else (if c then called (in_first Max) else (if d then called in_abs else (if e then called in_test else named w))))) fs (ts ++ word_on w ∷ [])

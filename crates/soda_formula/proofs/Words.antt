@@ -1,5 +1,5 @@
 -- Small facts of the machine: words, operators and tests.
-use Rattle.std.proofs.Common.{◌≡◌, ℕ, ◌≤◌, ◌<◌, Bool, true, false, nat_le, nat_lt, ◌||◌, List, codes, Option, Some, None, if◌then◌else◌, refl, arith, sym, ◌∙◌, ap}
+use Rattle.std.proofs.Common.{◌≡◌, ℕ, ◌≤◌, Bool, true, false, nat_le, ◌||◌, List, codes, Option, Some, None, if◌then◌else◌, refl, sym, ◌∙◌, ap}
 use Rattle.std.proofs.lemmas.Bool.{leb-true}
 use Rattle.soda_words.specs.declared.operators.BinOp.{BinOp}
 use Rattle.soda_words.specs.declared.operators.BinOp.TheVariants.{Min, Max}
