@@ -1,5 +1,6 @@
 -- A cell from the cells that it reads, wherever these are kept.
 use Rattle.std.proofs.Common.{◌≡◌, ℕ, ◌<◌, Bool, true, false, ◌&&◌, List, Some, ℤ, pos, unsigned_abs, refl, sym, ◌∙◌, ap, if◌then◌else◌, slice_index_or}
+use Rattle.std.proofs.lemmas.Bool.{and_parts}
 use Rattle.int_types.specs.Ranges.{wrapped}
 use Rattle.soda_ir.specs.Formula.{Formula}
 use Rattle.soda_eval.specs.Values.{Values, valued}
@@ -9,14 +10,6 @@ use Rattle.soda_ir.specs.Formula.{every, by_formula}
 use Rattle.soda_eval.specs.Arrays.{Stencil, Given, formula_at, type_at, outside_cell, IsMeaning, array_cell}
 use Rattle.soda_eval.proofs.Touched.{valued_same}
 use Rattle.soda_eval.proofs.Numbers.{number_back}
-
-first : (a b : Bool) → (a && b) ≡ true → a ≡ true
-first true b e = refl
-first false b e = cc
-
-second : (a b : Bool) → (a && b) ≡ true → b ≡ true
-second true b e = e
-second false b e = cc
 
 module _ (s : Stencil) (g : Given) (params : List ℤ) (region : ℕ → List ℤ → Bool) (value : ℕ → List ℤ → ℤ) (m : IsMeaning s g params region value) where
   at_formula : (x : ℕ) (f : Formula) (p : List ℤ) → formula_at s x ≡ Some f → region x p ≡ (in_box s.extents p && every (λ y o. region y (moved p o)) f)
@@ -32,7 +25,7 @@ module _ (s : Stencil) (g : Given) (params : List ℤ) (region : ℕ → List �
   cell_from c f p x e h =
       m.cells x p
       ∙ ap (λ k. by_formula k (g.cell x p) (λ f'. if region x p then wrapped (type_at s x) (valued s.scope (λ y o. value y (moved p o)) params f') else outside_cell s g x p)) e
-      ∙ by_region c f p x h (region x p) (λ z. second (in_box s.extents p) (every (λ y o. region y (moved p o)) f) (sym (at_formula x f p e) ∙ z))
+      ∙ by_region c f p x h (region x p) (λ z. (and_parts (in_box s.extents p) (every (λ y o. region y (moved p o)) f) (sym (at_formula x f p e) ∙ z)).1)
 
 -- an array that holds the cells by number holds them by point
 pub by_point : (ns : List ℕ) (value : List ℤ → ℤ) (array : List ℤ) → ((i : ℕ) → i < size ns → slice_index_or array i (pos 0) ≡ value (point ns i)) → (q : List ℤ) → in_box ns q ≡ true → array_cell ns array q ≡ value q

@@ -1,6 +1,6 @@
 -- The cells of a sum over one input.
 use Rattle.std.proofs.Common.{◌≡◌, ℕ, ◌*◌, ◌<◌, Bool, true, false, ◌&&◌, List, [], ◌∷◌, Some, None, ℤ, pos, unsigned_abs, length, map, option_map, refl, sym, ◌∙◌, ap, subst, nat_eq, arith, All, eq-eqb, zero, suc, slice_get, slice_index_or, if◌then◌else◌, ◌≢◌}
-use Rattle.std.proofs.lemmas.Bool.{eqb-true}
+use Rattle.std.proofs.lemmas.Bool.{and_from, eqb-true}
 use Rattle.std.proofs.lemmas.List.Elements.{All-head, All-tail}
 use Rattle.soda_words.specs.IntType.{IntType, int32}
 use Rattle.int_types.specs.Ranges.{wrapped, InRange}
@@ -21,10 +21,6 @@ use Rattle.soda_eval.proofs.Numbers.{point_there}
 use Rattle.soda_eval.proofs.Steps.{region_step, cell_step}
 use Rattle.soda_eval.proofs.Touched.{every_same, valued_same}
 
-both : (a b : Bool) → a ≡ true → b ≡ true → (a && b) ≡ true
-both true b p q = q
-both false b p q = p
-
 same_twice : (b : Bool) → (b && b) ≡ b
 same_twice true = refl
 same_twice false = refl
@@ -41,8 +37,8 @@ cell_every _ h = absurd h
 sum_every : (f : Formula) → IsSum f → every at_zero f ≡ true
 unfolding at_zero
 sum_every (read t o) h = eq-eqb t 0 h.0
-sum_every (binary Add a b) h = both (every at_zero a) (every at_zero b) (sum_every a h.0) (cell_every b h.1)
-sum_every (binary Sub a b) h = both (every at_zero a) (every at_zero b) (sum_every a h.0) (cell_every b h.1)
+sum_every (binary Add a b) h = and_from (every at_zero a) (every at_zero b) (sum_every a h.0) (cell_every b h.1)
+sum_every (binary Sub a b) h = and_from (every at_zero a) (every at_zero b) (sum_every a h.0) (cell_every b h.1)
 sum_every _ h = absurd h
 
 zero_from : (t : ℕ) (o : List ℤ) → at_zero t o ≡ true → t ≡ 0

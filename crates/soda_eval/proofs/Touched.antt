@@ -1,18 +1,11 @@
 -- What a formula reads decides its tests and its value.
 use Rattle.std.proofs.Common.{◌≡◌, ℕ, Bool, true, false, ◌&&◌, List, ℤ, refl, ◌∙◌, ap}
+use Rattle.std.proofs.lemmas.Bool.{and_parts}
 use Rattle.int_types.specs.Ranges.{wrapped}
 use Rattle.int_types.specs.Operators.{unary_value, binary_value, select_value}
 use Rattle.soda_ir.specs.Formula.{Formula, number, read, param, unary, binary, choice, cast}
 use Rattle.soda_eval.specs.Values.{Scope, Values, typed, valued}
 use Rattle.soda_ir.specs.Formula.{every}
-
-first : (a b : Bool) → (a && b) ≡ true → a ≡ true
-first true b e = refl
-first false b e = cc
-
-second : (a b : Bool) → (a && b) ≡ true → b ≡ true
-second true b e = e
-second false b e = cc
 
 module _ (test : ℕ → List ℤ → Bool) where
   pub every_same : (a b : ℕ → List ℤ → Bool) → ((t : ℕ) (o : List ℤ) → test t o ≡ true → a t o ≡ b t o) → (f : Formula) → every test f ≡ true → every a f ≡ every b f
@@ -21,14 +14,14 @@ module _ (test : ℕ → List ℤ → Bool) where
   every_same a b h (param p k) e = refl
   every_same a b h (unary op x) e = every_same a b h x e
   every_same a b h (binary op x y) e =
-      let p : every a x ≡ every b x = every_same a b h x (first (every test x) (every test y) e) in
-      let q : every a y ≡ every b y = every_same a b h y (second (every test x) (every test y) e) in
+      let p : every a x ≡ every b x = every_same a b h x (and_parts (every test x) (every test y) e).0 in
+      let q : every a y ≡ every b y = every_same a b h y (and_parts (every test x) (every test y) e).1 in
       cc
   every_same a b h (choice c x y) e =
-      let l = first (every test c && every test x) (every test y) e in
-      let r : every a c ≡ every b c = every_same a b h c (first (every test c) (every test x) l) in
-      let p : every a x ≡ every b x = every_same a b h x (second (every test c) (every test x) l) in
-      let q : every a y ≡ every b y = every_same a b h y (second (every test c && every test x) (every test y) e) in
+      let l = (and_parts (every test c && every test x) (every test y) e).0 in
+      let r : every a c ≡ every b c = every_same a b h c (and_parts (every test c) (every test x) l).0 in
+      let p : every a x ≡ every b x = every_same a b h x (and_parts (every test c) (every test x) l).1 in
+      let q : every a y ≡ every b y = every_same a b h y (and_parts (every test c && every test x) (every test y) e).1 in
       cc
   every_same a b h (cast t x) e = every_same a b h x e
 
@@ -38,14 +31,14 @@ module _ (test : ℕ → List ℤ → Bool) where
   valued_same s params a b h (param p k) e = refl
   valued_same s params a b h (unary op x) e = ap (λ v. unary_value op (typed s x) v) (valued_same s params a b h x e)
   valued_same s params a b h (binary op x y) e =
-      let p : valued s a params x ≡ valued s b params x = valued_same s params a b h x (first (every test x) (every test y) e) in
-      let q : valued s a params y ≡ valued s b params y = valued_same s params a b h y (second (every test x) (every test y) e) in
+      let p : valued s a params x ≡ valued s b params x = valued_same s params a b h x (and_parts (every test x) (every test y) e).0 in
+      let q : valued s a params y ≡ valued s b params y = valued_same s params a b h y (and_parts (every test x) (every test y) e).1 in
       ap (λ v. binary_value op (typed s x) v (typed s y) (valued s a params y)) p ∙ ap (λ v. binary_value op (typed s x) (valued s b params x) (typed s y) v) q
   valued_same s params a b h (choice c x y) e =
-      let l = first (every test c && every test x) (every test y) e in
-      let r : valued s a params c ≡ valued s b params c = valued_same s params a b h c (first (every test c) (every test x) l) in
-      let p : valued s a params x ≡ valued s b params x = valued_same s params a b h x (second (every test c) (every test x) l) in
-      let q : valued s a params y ≡ valued s b params y = valued_same s params a b h y (second (every test c && every test x) (every test y) e) in
+      let l = (and_parts (every test c && every test x) (every test y) e).0 in
+      let r : valued s a params c ≡ valued s b params c = valued_same s params a b h c (and_parts (every test c) (every test x) l).0 in
+      let p : valued s a params x ≡ valued s b params x = valued_same s params a b h x (and_parts (every test c) (every test x) l).1 in
+      let q : valued s a params y ≡ valued s b params y = valued_same s params a b h y (and_parts (every test c && every test x) (every test y) e).1 in
       ap (λ v. select_value v (typed s x) (valued s a params x) (typed s y) (valued s a params y)) r
       ∙ ap (λ v. select_value (valued s b params c) (typed s x) v (typed s y) (valued s a params y)) p
       ∙ ap (λ v. select_value (valued s b params c) (typed s x) (valued s b params x) (typed s y) v) q

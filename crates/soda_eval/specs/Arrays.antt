@@ -20,6 +20,7 @@ pub record Given : Type 0 where
   pub region : ℕ → List ℤ → Bool
   pub cell : ℕ → List ℤ → ℤ
 
+-- the formula of a tensor, if it has one
 abbrev pub formula_at : Stencil → ℕ → Option Formula
 formula_at s x = slice_index_or s.formulas x None
 
@@ -29,6 +30,7 @@ in_region s g zero x p = false
 in_region s g (suc k) x p =
     in_box s.extents p && by_formula (formula_at s x) (g.region x p) (every (λ y o. in_region s g k y (moved p o)))
 
+-- the type of a tensor
 abbrev pub type_at : Stencil → ℕ → IntType
 type_at s x = slice_index_or s.scope.tensors x int32
 
@@ -40,12 +42,16 @@ outside_cell s g x p = elim (slice_index_or s.outside x None) [ None ↦ pos 0 |
 unfoldable pub cell : Stencil → Given → List ℤ → (k : ℕ) → ℕ → List ℤ → ℤ
 cell s g params zero x p = pos 0
 cell s g params (suc k) x p =
-    by_formula (formula_at s x) (g.cell x p) (λ f. if in_region s g (suc k) x p then wrapped (type_at s x) (valued s.scope (λ y o. cell s g params k y (moved p o)) params f) else outside_cell s g x p)
+    by_formula (formula_at s x) (g.cell x p) (λ f. if in_region s g (suc k) x p
+        then wrapped (type_at s x) (valued s.scope (λ y o. cell s g params k y (moved p o)) params f)
+        else outside_cell s g x p)
+
+-- the cell of an array at a point, and 0 outside its box
+abbrev pub array_cell : List ℕ → List ℤ → List ℤ → ℤ
+array_cell extents array p =
+    if in_box extents p then slice_index_or array (unsigned_abs (linear extents p)) (pos 0) else pos 0
 
 -- what the first iteration begins with: whole arrays
-abbrev pub array_cell : List ℕ → List ℤ → List ℤ → ℤ
-array_cell extents array p = if in_box extents p then slice_index_or array (unsigned_abs (linear extents p)) (pos 0) else pos 0
-
 abbrev pub whole : List ℕ → List (List ℤ) → Given
 whole extents arrays = record {
   region = λ x p. in_box extents p;
@@ -58,14 +64,19 @@ IsPlaced s rank =
     (x : ℕ) (f : Formula) → formula_at s x ≡ Some f → every (λ y o. nat_lt (rank y) (rank x)) f ≡ true
 
 -- the sentences that say which points are in the regions and what the cells are
-pub record IsMeaning (s : Stencil) (g : Given) (params : List ℤ) (region : ℕ → List ℤ → Bool) (value : ℕ → List ℤ → ℤ) : Type 0 where
-  pub regions : (x : ℕ) (p : List ℤ) → region x p ≡ (in_box s.extents p && by_formula (formula_at s x) (g.region x p) (every (λ y o. region y (moved p o))))
-  pub cells : (x : ℕ) (p : List ℤ) → value x p ≡ by_formula (formula_at s x) (g.cell x p) (λ f. if region x p then wrapped (type_at s x) (valued s.scope (λ y o. value y (moved p o)) params f) else outside_cell s g x p)
+pub record IsMeaning (s : Stencil) (g : Given) (params : List ℤ) (region : ℕ → List ℤ → Bool)
+    (value : ℕ → List ℤ → ℤ) : Type 0 where
+  pub regions : (x : ℕ) (p : List ℤ) → region x p
+      ≡ (in_box s.extents p && by_formula (formula_at s x) (g.region x p) (every (λ y o. region y (moved p o))))
+  pub cells : (x : ℕ) (p : List ℤ) → value x p
+      ≡ by_formula (formula_at s x) (g.cell x p) (λ f. if region x p
+      then wrapped (type_at s x) (valued s.scope (λ y o. value y (moved p o)) params f) else outside_cell s g x p)
 
 -- what the iteration after one begins with: the outputs, whose tensor numbers are these
 abbrev pub next : Bool → List ℕ → Stencil → List ℤ → Given → Given
 next preserve outputs s params g = record {
-  region = λ j p. if preserve then in_box s.extents p else in_region s g (length s.formulas) (slice_index_or outputs j 0) p;
+  region = λ j p. if preserve then in_box s.extents p
+      else in_region s g (length s.formulas) (slice_index_or outputs j 0) p;
   cell = λ j p. cell s g params (length s.formulas) (slice_index_or outputs j 0) p;
 }
 

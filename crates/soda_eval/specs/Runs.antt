@@ -17,7 +17,8 @@ starts_from k (p ∷ ps) = k ∷ starts_from (k + size p.sizes) ps
 
 -- what a formula of the program can name
 abbrev pub scope_of : PlainProgram → Scope
-scope_of p = record { tensors = map (λ t. t.ty) p.tensors; params = map (λ q. q.ty) p.params; starts = starts_from 0 p.params }
+scope_of p =
+    record { tensors = map (λ t. t.ty) p.tensors; params = map (λ q. q.ty) p.params; starts = starts_from 0 p.params }
 
 -- how many cells an array of so many rows has
 abbrev pub cells_at : PlainProgram → ℕ → ℕ
@@ -26,15 +27,20 @@ cells_at p rows = size (extents_at p rows)
 -- the numbers of the outputs, where the first of these tensors has the number k
 abbrev pub outputs_from : ℕ → List PlainTensor → List ℕ
 outputs_from k [] = []
-outputs_from k (t ∷ ts) = elim t.role [ Input ↦ outputs_from (suc k) ts | Local ↦ outputs_from (suc k) ts | Output ↦ k ∷ outputs_from (suc k) ts ]
+outputs_from k (t ∷ ts) =
+    elim t.role [ Input ↦ outputs_from (suc k) ts | Local ↦ outputs_from (suc k) ts
+        | Output ↦ k ∷ outputs_from (suc k) ts ]
 
+-- the numbers of the outputs of a program, in order
 abbrev pub outputs_of : PlainProgram → List ℕ
 outputs_of p = outputs_from 0 p.tensors
 
 -- the input of its number for each output, and None for every other tensor
 abbrev pub borders_from : ℕ → List PlainTensor → List (Option ℕ)
 borders_from j [] = []
-borders_from j (t ∷ ts) = elim t.role [ Input ↦ None ∷ borders_from j ts | Local ↦ None ∷ borders_from j ts | Output ↦ Some j ∷ borders_from (suc j) ts ]
+borders_from j (t ∷ ts) =
+    elim t.role [ Input ↦ None ∷ borders_from j ts | Local ↦ None ∷ borders_from j ts
+        | Output ↦ Some j ∷ borders_from (suc j) ts ]
 
 -- what stands outside a tensor's region: 0, or under preserve the cell of an output's input
 abbrev pub borders_of : PlainProgram → List (Option ℕ)
@@ -57,7 +63,8 @@ run_of p rows params inputs t =
 -- the output arrays of the last iteration, in order, each listed with the first dimension fastest
 abbrev pub defined_arrays : PlainProgram → ℕ → List ℤ → List (List ℤ) → List (List ℤ)
 defined_arrays p rows params inputs =
-    listed (λ j. listed (λ i. (run_of p rows params inputs p.iterate).cell j (point (extents_at p rows) i)) (cells_at p rows)) (length (outputs_of p))
+    listed (λ j. listed (λ i. (run_of p rows params inputs p.iterate).cell j (point (extents_at p rows) i))
+        (cells_at p rows)) (length (outputs_of p))
 
 -- an array of n cells of the type
 pub record IsArray (ty : IntType) (n : ℕ) (cells : List ℤ) : Type 0 where

@@ -1,6 +1,7 @@
 -- The programs that are built so far: a sum of cells of one input, in one dimension.
 use Rattle.std.specs.Prelude.{◌≡◌, ◌≢◌, ℕ, ◌+◌, ◌%◌, ◌≤◌, Bool, true, false, not, ◌&&◌, ◌==◌, nat_le, List, [], ◌∷◌, length, Some, None, ℤ, unsigned_abs}
 use Rattle.soda_words.specs.IntType.{IntType}
+use Rattle.soda_words.specs.Limits.{least_burst, most_burst, most_offset, most_unroll}
 use Rattle.soda_words.specs.declared.operators.BinOp.{BinOp}
 use Rattle.soda_words.specs.declared.operators.BinOp.TheVariants.{Add, Sub}
 use Rattle.soda_ir.specs.declared.program.Border.TheVariants.{Ignore}
@@ -10,13 +11,14 @@ use Rattle.soda_words.specs.Names.{is_free_name, is_name}
 use Rattle.soda_ir.specs.Counts.{is_input_role, is_output_role}
 use Rattle.soda_ir.specs.Program.{PlainProgram, PlainTensor, preserves}
 
+-- the type of bytes without a sign
 abbrev pub uint8 : IntType
 uint8 = record { signed = false; bits = 8 }
 
--- one component, of magnitude at most 32,768
+-- one component, within the limit of offsets
 abbrev pub IsNear : List ℤ → Type 0
 IsNear [] = ⊥
-IsNear (d ∷ []) = unsigned_abs d ≤ 32768
+IsNear (d ∷ []) = unsigned_abs d ≤ most_offset
 IsNear (d ∷ e ∷ ds) = ⊥
 
 -- a cell of the input
@@ -31,6 +33,10 @@ IsSum (binary Add a b) = IsSum a × IsCell b
 IsSum (binary Sub a b) = IsSum a × IsCell b
 IsSum _ = ⊥
 
+-- the most cells of a sum
+abbrev pub most_summed : ℕ
+most_summed = 300
+
 -- how many cells a formula names
 abbrev pub cell_count : Formula → ℕ
 cell_count (number n) = 0
@@ -41,16 +47,18 @@ cell_count (binary op a b) = cell_count a + cell_count b
 cell_count (choice c a b) = cell_count c + cell_count a + cell_count b
 cell_count (cast t a) = cell_count a
 
+-- an input of bytes
 abbrev pub input_of : List ℕ → PlainTensor
 input_of name = record { name = name; ty = uint8; role = Input; formula = None }
 
+-- an output of bytes
 abbrev pub output_of : List ℕ → Formula → PlainTensor
 output_of name f = record { name = name; ty = uint8; role = Output; formula = Some f }
 
--- from 8 to 8,192, and a multiple of 8
+-- a width within its limits, of whole bytes
 pub record IsByteBurst (burst : ℕ) : Type 0 where
-  pub least : 8 ≤ burst
-  pub most : burst ≤ 8192
+  pub least : least_burst ≤ burst
+  pub most : burst ≤ most_burst
   pub bytes : burst % 8 ≡ 0
 
 -- the names of an input and of an output that may stand in one program
@@ -84,15 +92,15 @@ pub record IsSumProgram (p : PlainProgram) : Type 0 where
   pub named : is_name kernel ≡ true
   pub bursts : IsByteBurst burst
   pub some_lanes : 1 ≤ unroll
-  pub few_lanes : unroll ≤ 64
+  pub few_lanes : unroll ≤ most_unroll
   pub names : AreNames input output
   pub sum : IsSum formula
-  pub few : cell_count formula ≤ 300
+  pub few : cell_count formula ≤ most_summed
 
--- one component, of magnitude at most 32,768, as a test
+-- one component, within the limit of offsets, as a test
 abbrev pub is_one_near : List ℤ → Bool
 is_one_near [] = false
-is_one_near (d ∷ []) = nat_le (unsigned_abs d) 32768
+is_one_near (d ∷ []) = nat_le (unsigned_abs d) most_offset
 is_one_near (d ∷ e ∷ ds) = false
 
 -- a cell of the input, as a test
@@ -125,14 +133,15 @@ is_sum (cast t a) = false
 abbrev pub is_uint8 : IntType → Bool
 is_uint8 t = not t.signed && t.bits == 8
 
--- an input of bytes
+-- an input of bytes, as a test
 abbrev pub is_sum_input : PlainTensor → Bool
 is_sum_input t = is_input_role t.role && is_uint8 t.ty
 
 -- an output of bytes that is a sum of few cells
 abbrev pub is_sum_output : PlainTensor → Bool
 is_sum_output t =
-    is_output_role t.role && is_uint8 t.ty && elim t.formula [ None ↦ false | Some f ↦ is_sum f && nat_le (cell_count f) 300 ]
+    is_output_role t.role && is_uint8 t.ty &&
+        elim t.formula [ None ↦ false | Some f ↦ is_sum f && nat_le (cell_count f) most_summed ]
 
 -- an input, and an output that is a sum
 abbrev pub are_sum_tensors : List PlainTensor → Bool

@@ -7,8 +7,6 @@ mod plain;
 mod scope;
 mod spot;
 mod sums;
-#[cfg(test)]
-mod tests;
 mod value;
 
 pub use laws::{arrays_are_defined, arrays_are_one, cell_from_any_store, points_are_numbered};

@@ -1,6 +1,7 @@
 ghost use Rattle.std.specs.Prelude.{◌≡◌, ◌<◌, ◌≤◌, ◌^◌, ◌∷◌, [], ℕ, List, ℤ, Some, pos, true, length, IfOk, slice_index_or};
 ghost use Rattle.soda_words.specs.IntType.{int32};
 ghost use Rattle.soda_eval.specs.Arrays.{Each, array_cell, cell, formula_at, whole};
+ghost use Rattle.soda_words.specs.Limits.{most_cells};
 ghost use Rattle.soda_ir.specs.Formula.{by_formula, every};
 ghost use Rattle.soda_ir.specs.Formula.{Formula};
 ghost use Rattle.soda_eval.specs.Values.{valued};
@@ -31,7 +32,7 @@ pub fn plain_cell(
     place: u64,
 ) -> i128
     requires sums { IsSumProgram (plain program.now) }
-    requires small { cells_at (plain program.now) rows ≤ 2 ^ 24 }
+    requires small { cells_at (plain program.now) rows ≤ most_cells }
     requires arrays { (f : Formula) → formula_at (stencil_of (plain program.now) rows) tensor ≡ Some f
         → Each (λ t o. IsArray (slice_index_or (scope_of (plain program.now)).tensors t int32) (cells_at (plain program.now) rows) (slice_index_or arrays.now t [])) f }
     requires params { HasValues (place_types (plain program.now).params) params.now }
@@ -71,11 +72,17 @@ fn cell_at(
     place: u64,
 ) -> i128
     requires sums { IsSumProgram (plain program.now) }
-    requires small { cells_at (plain program.now) rows ≤ 2 ^ 24 }
-    requires inputs { HasArrays (cells_at (plain program.now) rows) (input_types (plain program.now).tensors) inputs.now }
+    requires small { cells_at (plain program.now) rows ≤ most_cells }
+    requires inputs {
+        HasArrays (cells_at (plain program.now) rows) (input_types (plain program.now).tensors) inputs.now
+    }
     requires params { HasValues (place_types (plain program.now).params) params.now }
     requires within { place < rows }
-    ensures { result ≡ cell (stencil_of (plain program.now) rows) (whole (extents_at (plain program.now) rows) inputs.now) params.now 2 1 (point (extents_at (plain program.now) rows) place) }
+    ensures {
+        result ≡ cell (stencil_of (plain program.now) rows)
+            (whole (extents_at (plain program.now) rows) inputs.now) params.now 2 1
+            (point (extents_at (plain program.now) rows) place)
+    }
 {
     let formula = sum_of(program);
     let parts = program.parts();
@@ -98,8 +105,10 @@ fn output_array(
     params: &[i128],
 ) -> Result<Items<i128>, NoMemory>
     requires sums { IsSumProgram (plain program.now) }
-    requires small { cells_at (plain program.now) rows ≤ 2 ^ 24 }
-    requires inputs { HasArrays (cells_at (plain program.now) rows) (input_types (plain program.now).tensors) inputs.now }
+    requires small { cells_at (plain program.now) rows ≤ most_cells }
+    requires inputs {
+        HasArrays (cells_at (plain program.now) rows) (input_types (plain program.now).tensors) inputs.now
+    }
     requires params { HasValues (place_types (plain program.now).params) params.now }
     ensures { IfOk result (λ out. out ∷ [] ≡ defined_arrays (plain program.now) rows params.now inputs.now) }
 {
@@ -110,7 +119,7 @@ fn output_array(
     Ok(Items::from_vec(cells))
 }
 
-/// The output arrays of the last iteration, each in the order of cell numbers. An array has at most 16,777,216 cells,
+/// The output arrays of the last iteration, each in the order of cell numbers. An array has at most `most_cells` cells,
 /// and there is one array of cells in range for each input.
 pub fn plain_run(
     alloc: Global,
@@ -120,8 +129,10 @@ pub fn plain_run(
     params: &[i128],
 ) -> Result<Vec<Items<i128>>, NoMemory>
     requires sums { IsSumProgram (plain program.now) }
-    requires small { cells_at (plain program.now) rows ≤ 2 ^ 24 }
-    requires inputs { HasArrays (cells_at (plain program.now) rows) (input_types (plain program.now).tensors) inputs.now }
+    requires small { cells_at (plain program.now) rows ≤ most_cells }
+    requires inputs {
+        HasArrays (cells_at (plain program.now) rows) (input_types (plain program.now).tensors) inputs.now
+    }
     requires params { HasValues (place_types (plain program.now).params) params.now }
     ensures { IfOk result (λ arrays. arrays.items ≡ defined_arrays (plain program.now) rows params.now inputs.now) }
 {

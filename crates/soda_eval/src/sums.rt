@@ -4,7 +4,10 @@ ghost use Rattle.soda_eval.specs.Sums.{IsSumProgram, are_sum_tensors, cell_count
 ghost use Rattle.soda_ir.specs.Tree.{formula_of};
 
 use soda_ir::{Expr, Offset, Parts, Program, Tensor};
-use soda_words::{BinOp, Ty};
+use soda_words::{BinOp, MOST_OFFSET, Ty};
+
+// The most cells of a sum.
+const MOST_SUMMED: u64 = 300;
 
 // No formula of so many cells is told from a larger one.
 const MANY: u64 = 10_000;
@@ -13,7 +16,7 @@ fn is_one_near(offset: &[i64]) -> bool
     ensures { result ≡ is_one_near offset.now }
 {
     match offset {
-        [d] => d.unsigned_abs() <= 32_768,
+        [d] => d.unsigned_abs() <= MOST_OFFSET,
         _ => false,
     }
 }
@@ -103,7 +106,7 @@ fn is_sum_output(tensor: &Tensor) -> bool
             tensor.role.is_output()
                 && is_uint8(tensor.ty)
                 && is_sum(formula)
-                && cell_count(formula) <= 300
+                && cell_count(formula) <= MOST_SUMMED
         }
         None => false,
     }

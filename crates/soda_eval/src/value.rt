@@ -38,7 +38,9 @@ pub(crate) fn evaluate<C: Cells>(
 ) -> (Ty, i128)
     requires { IsReadable (scope_of (plain parts.now)) (C.value cells.now) params.now (formula_of expr.now) }
     ensures ty { result.0 ≡ typed (scope_of (plain parts.now)) (formula_of expr.now) }
-    ensures value { result.1 ≡ valued (scope_of (plain parts.now)) (C.value cells.now) params.now (formula_of expr.now) }
+    ensures value {
+        result.1 ≡ valued (scope_of (plain parts.now)) (C.value cells.now) params.now (formula_of expr.now)
+    }
     ensures in_range { InRange result.0 result.1 }
 {
     match expr {

@@ -1,4 +1,5 @@
--- One level of a tree.
+-- What crates above cite: one level of a tree, and that the live tensors and reads of a sound program can be counted.
+pub use Rattle.soda_ir.proofs.Groups.{countable}
 use Rattle.std.proofs.Common.{◌≡◌, ℕ, ℤ, refl}
 use Rattle.soda_words.specs.IntType.{IntType}
 use Rattle.soda_words.specs.declared.operators.UnOp.{UnOp}
@@ -38,5 +39,6 @@ pub formula_of-Cast : (t : IntType) (a : Expr) → formula_of (Cast t a) ≡ cas
 unfolding formula_of part_of hidden-the_row-Expr-0 hidden
 formula_of-Cast t a = refl
 
+-- the formula of a tree, one level at a time
 pub ruleset levels =
     (formula_of-Num, formula_of-Cell, formula_of-Par, formula_of-Un, formula_of-Bin, formula_of-Select, formula_of-Cast, the_lemmas)

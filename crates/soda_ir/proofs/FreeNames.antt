@@ -5,24 +5,11 @@ use Rattle.std.proofs.lemmas.Bool.{and_from, and_parts}
 use Rattle.std.proofs.lemmas.List.{map-append, take-append-drop, take_more}
 use Rattle.std.proofs.lemmas.List.Folds.{list_any-append}
 use Rattle.soda_words.specs.Names.{is_free_name, is_word}
-use Rattle.soda_words.proofs.CallerLemmas.{is_word-same}
+use Rattle.soda_words.proofs.CallerLemmas.{is_word-turned}
 use Rattle.soda_ir.specs.declared.program.Param.{Param}
 use Rattle.soda_ir.specs.declared.program.Tensor.{Tensor}
 use Rattle.soda_ir.specs.Program.{PlainParam, PlainTensor, plain_param, plain_tensor}
 use Rattle.soda_ir.specs.Valid.{are_free_names}
-
-same : (a b : Bool) → (a ≡ true → b ≡ true) → (b ≡ true → a ≡ true) → a ≡ b
-same true b h k = sym (h refl)
-same false true h k = k refl
-same false false h k = refl
-
-turned : (v w : List ℕ) → is_word v w ≡ true → is_word w v ≡ true
-turned v w e =
-    let i : v ≡ w = is_word-same v w e in
-    ap (λ u. is_word w u) i ∙ ap (λ u. is_word u w) (sym i) ∙ e
-
-is_word-turned : (v w : List ℕ) → is_word v w ≡ is_word w v
-is_word-turned v w = same (is_word v w) (is_word w v) (turned v w) (turned w v)
 
 -- the tests of one name more, behind the others or in front of them
 regrouped : (f l s a g m : Bool) → ((f && not (l || (s || false))) && ((a && g) && not m)) ≡ ((((f && not l) && a) && g) && not (s || m))

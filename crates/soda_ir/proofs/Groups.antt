@@ -42,6 +42,7 @@ by_formulas p q h None e = refl
 by_formulas p q h (Some f) e = h f e
 
 -- what is sound can be counted
+-- the live tensors and reads of a sound program can be counted
 pub countable : (p : PlainProgram) → IsSound p → IsCountable p
 countable p s = record {
   cells = list_all-weaker (has_good_uses p) (formula_is (every (is_good_cell p))) (λ t e. by_formulas (each_use (is_good_cell p) (is_good_place p)) (every (is_good_cell p)) (cells_of_uses (is_good_cell p) (is_good_place p)) t.formula e) p.tensors s.parts.uses;

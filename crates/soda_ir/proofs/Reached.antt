@@ -1,6 +1,6 @@
 -- What is reached in one round more, and in all.
 use Rattle.std.proofs.Common.{◌≡◌, ℕ, zero, suc, ◌+◌, ◌<◌, Bool, true, false, not, ◌&&◌, ◌||◌, List, length, slice_index_or, refl, sym, ◌∙◌, ap, arith, add-one, [], if◌then◌else◌, take, drop, ◌++◌, ⊎_elim, ◌≤◌}
-use Rattle.std.proofs.lemmas.Bool.{cases_lt, false≢true}
+use Rattle.std.proofs.lemmas.Bool.{cases_lt, false≢true, or_right}
 use Rattle.std.proofs.lemmas.Grind.{common_steps}
 use Rattle.soda_ir.specs.Counts.{count_below, is_reached, some_below, sum_below}
 
@@ -61,17 +61,13 @@ round r n k w before marks next here behind step y l =
     ∙ sym (reached_step r n w k y)
     ∙ sym (ap (λ j. is_reached r n w j y) (add-one k))
 
-or_second : (a s : Bool) → s ≡ true → (a || s) ≡ true
-or_second true s h = refl
-or_second false s h = h
-
 pub round_behind : (r : ℕ → ℕ → Bool) (n : ℕ) (before marks next : List Bool) → ((y : ℕ) → y < n → some_below (λ x. slice_index_or before x false && r x y) n ≡ true → slice_index_or marks y false ≡ true) → ((y : ℕ) → y < n → slice_index_or next y false ≡ (slice_index_or marks y false || some_below (λ x. (slice_index_or marks x false && not (slice_index_or before x false)) && r x y) n)) → (y : ℕ) → y < n → some_below (λ x. slice_index_or marks x false && r x y) n ≡ true → slice_index_or next y false ≡ true
 round_behind r n before marks next behind step y l e =
     let m : ℕ → Bool = λ x. slice_index_or marks x false in
     let b : ℕ → Bool = λ x. slice_index_or before x false in
     step y l
     ∙ absorbed (m y) (some_below (λ x. b x && r x y) n) (some_below (λ x. (m x && not (b x)) && r x y) n) (some_below (λ x. m x && r x y) n) (behind y l) (new_is_enough b m (λ x. r x y) n)
-    ∙ or_second (m y) (some_below (λ x. m x && r x y) n) e
+    ∙ or_right (m y) (some_below (λ x. m x && r x y) n) e
 
 none_before : (r : ℕ → ℕ → Bool) (n m y : ℕ) → some_below (λ x. slice_index_or [] x false && r x y) m ≡ false
 none_before r n zero y = refl

@@ -9,11 +9,7 @@ use Rattle.soda_ir.specs.Points.{listed}
 use Rattle.soda_ir.specs.Program.{PlainProgram, plain, plain_tensor}
 use Rattle.soda_ir.proofs.Lists.{get-listed, get-listed-past}
 use Rattle.soda_ir.proofs.Settled.{past_last, ready_more, ready_placed}
-
-same : (a b : Bool) → (a ≡ true → b ≡ true) → (b ≡ true → a ≡ true) → a ≡ b
-same true b h k = sym (h refl)
-same false true h k = k refl
-same false false h k = refl
+use Rattle.soda_words.proofs.CallerLemmas.{same_tests}
 
 -- marks where no round has placed anything are as good as any
 pub none_placed : (p : PlainProgram) (x : ℕ) (b : Bool) → has_place p 0 x ≡ true → b ≡ true
@@ -50,13 +46,13 @@ module _ (parts : Parts) (marks next : List Bool) (is : next ≡ listed (λ x. t
   pub last_round : ((x : ℕ) → slice_index_or marks x false ≡ true → can_be_placed (plain parts) x ≡ true) → next ≡ marks → (x : ℕ) → slice_index_or next x false ≡ can_be_placed (plain parts) x
   last_round h d x =
       ap (λ xs. slice_index_or xs x false) d
-      ∙ same (slice_index_or marks x false) (can_be_placed (plain parts) x) (h x) (closed d (length (plain parts).tensors) x)
+      ∙ same_tests (slice_index_or marks x false) (can_be_placed (plain parts) x) (h x) (closed d (length (plain parts).tensors) x)
 
 -- after as many rounds as there are tensors
 pub all_rounds : (parts : Parts) (k : ℕ) (marks : List Bool) → k ≡ length parts.tensors → ((x : ℕ) → slice_index_or marks x false ≡ true → can_be_placed (plain parts) x ≡ true) → ((x : ℕ) → has_place (plain parts) k x ≡ true → slice_index_or marks x false ≡ true) → (x : ℕ) → slice_index_or marks x false ≡ can_be_placed (plain parts) x
 all_rounds parts k marks e h w x =
     let long : length (plain parts).tensors ≡ k = length-map parts.tensors plain_tensor ∙ sym e in
-    same (slice_index_or marks x false) (can_be_placed (plain parts) x) (h x) (λ d. w x (sym (ap (λ m. has_place (plain parts) m x) long) ∙ d))
+    same_tests (slice_index_or marks x false) (can_be_placed (plain parts) x) (h x) (λ d. w x (sym (ap (λ m. has_place (plain parts) m x) long) ∙ d))
 
 -- a mark more, on a tensor whose reads are all marked
 pub mark_placed : (p : PlainProgram) (marks : List Bool) (t : ℕ) → ((x : ℕ) → slice_index_or marks x false ≡ true → can_be_placed p x ≡ true) → tensor_is (λ u. by_formula u.formula true (every (λ y o. slice_index_or marks y false))) p t ≡ true → (x : ℕ) → slice_index_or (set marks t true) x false ≡ true → can_be_placed p x ≡ true

@@ -2,6 +2,7 @@
 use Rattle.std.specs.Prelude.{◌≡◌, ℕ, zero, suc, ◌+◌, ◌*◌, ◌≤◌, Bool, true, false, not, ◌&&◌, ◌||◌, ◌==◌, List, [], ◌∷◌, ◌++◌, length, Option, Some, None, slice_get, slice_index_or, map, if◌then◌else◌, pos}
 use Rattle.std.specs.List.{list_all, list_any}
 use Rattle.std.specs.Ordering.{int_eq}
+use Rattle.soda_words.specs.Limits.{most_dims, most_iterate, most_tensors, most_tile}
 use Rattle.soda_ir.specs.declared.program.Role.{Role}
 use Rattle.soda_ir.specs.declared.program.Role.TheVariants.{Input, Local, Output}
 use Rattle.soda_ir.specs.declared.reads.Read.{Read}
@@ -105,7 +106,8 @@ is_reached reads n wanted (suc k) x =
 abbrev pub is_needed : PlainProgram → (wanted : ℕ → Bool) → ℕ → Bool
 is_needed p wanted x = is_reached (does_read p) (length p.tensors) wanted (length p.tensors) x
 
--- an output of the iteration behind which so many come: any of the last one, and before it one whose cells the next one needs as an input
+-- an output of the iteration behind which so many come: any of the last one, and before it one whose cells
+-- the next one needs as an input
 unfoldable pub is_wanted : PlainProgram → (later : ℕ) → ℕ → Bool
 is_wanted p zero x = is_output p x
 is_wanted p (suc later) x = is_output p x && is_needed p (is_wanted p later) (output_number p x)
@@ -126,12 +128,14 @@ distinct_count (r ∷ rs) = (if list_any (is_same_read r) rs then 0 else 1) + di
 -- the live tensors: each input of the first iteration, and the live locals and outputs of all iterations
 unfoldable pub live_count : PlainProgram → ℕ
 live_count p =
-    count_below (is_input p) (length p.tensors) + sum_below (λ later. count_below (is_live_statement p later) (length p.tensors)) p.iterate
+    count_below (is_input p) (length p.tensors) + sum_below
+        (λ later. count_below (is_live_statement p later) (length p.tensors)) p.iterate
 
 -- the reads of all live locals and outputs: each pair of what is read and how far away, once for a reader
 unfoldable pub read_count : PlainProgram → ℕ
 read_count p =
-    sum_below (λ later. sum_below (λ x. if is_live_statement p later x then distinct_count (tensor_reads p x) else 0) (length p.tensors)) p.iterate
+    sum_below (λ later. sum_below (λ x. if is_live_statement p later x then distinct_count (tensor_reads p x) else 0)
+        (length p.tensors)) p.iterate
 
 -- how far away in an array a cell can stand whose offset has a 1 in each dimension, where the last extent is no matter
 abbrev pub reach : List ℕ → ℕ
@@ -142,7 +146,7 @@ reach (n ∷ ns) = 1 + n * reach ns
 pub record IsCountable (p : PlainProgram) : Type 0 where
   pub cells : list_all (formula_is (every (is_good_cell p))) p.tensors ≡ true
   pub extents : list_all (λ n. not (n == 0)) p.extents ≡ true
-  pub few_dims : suc (length p.extents) ≤ 4
-  pub small_tile : size p.extents ≤ 16777216
-  pub few_tensors : length p.tensors ≤ 512
-  pub few_iterations : p.iterate ≤ 64
+  pub few_dims : suc (length p.extents) ≤ most_dims
+  pub small_tile : size p.extents ≤ most_tile
+  pub few_tensors : length p.tensors ≤ most_tensors
+  pub few_iterations : p.iterate ≤ most_iterate

@@ -1,6 +1,7 @@
 -- What a formula names: cells of tensors, and values of params.
 use Rattle.std.specs.Prelude.{ℕ, suc, Bool, true, false, ◌&&◌, ◌==◌, nat_le, nat_lt, List, length, Some, None, slice_get, ℤ, unsigned_abs}
 use Rattle.std.specs.List.{list_all}
+use Rattle.soda_words.specs.Limits.{most_offset}
 use Rattle.soda_ir.specs.Formula.{Formula, number, read, param, unary, binary, choice, cast}
 use Rattle.soda_ir.specs.Points.{size}
 use Rattle.soda_ir.specs.Program.{PlainProgram, PlainTensor}
@@ -15,9 +16,9 @@ each_use cells values (binary op a b) = each_use cells values a && each_use cell
 each_use cells values (choice c a b) = each_use cells values c && each_use cells values a && each_use cells values b
 each_use cells values (cast t a) = each_use cells values a
 
--- each component is at most 32,768 in magnitude
+-- no component is greater in magnitude than the limit of offsets
 abbrev pub is_near : List ℤ → Bool
-is_near o = list_all (λ d. nat_le (unsigned_abs d) 32768) o
+is_near o = list_all (λ d. nat_le (unsigned_abs d) most_offset) o
 
 -- the tensor is there, and there is a component for each dimension, none of them too far
 abbrev pub is_good_cell : PlainProgram → ℕ → List ℤ → Bool

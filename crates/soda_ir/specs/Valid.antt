@@ -2,6 +2,7 @@
 use Rattle.std.specs.Prelude.{◌≡◌, ◌≢◌, ℕ, suc, ◌*◌, ◌%◌, ◌≤◌, ◌<◌, Bool, true, not, ◌&&◌, ◌==◌, nat_le, List, [], ◌∷◌, ◌++◌, map, length, sum_by, Some, None, if◌then◌else◌}
 use Rattle.std.specs.List.{list_all, list_any}
 use Rattle.soda_words.specs.IntType.{IntType}
+use Rattle.soda_words.specs.Limits.{least_burst, most_brackets, most_burst, most_dims, most_iterate, most_live, most_reads, most_sizes, most_tensors, most_tile, most_tokens, most_unroll, most_values}
 use Rattle.soda_words.specs.Names.{is_free_name, is_name, is_word}
 use Rattle.soda_ir.specs.declared.program.Role.TheVariants.{Input, Local, Output}
 use Rattle.soda_ir.specs.Counts.{can_be_placed, is_input_role, is_output_role, live_count, read_count}
@@ -14,9 +15,9 @@ use Rattle.soda_ir.specs.Written.{most_open, token_count}
 abbrev pub has_good_uses : PlainProgram → PlainTensor → Bool
 has_good_uses p t = formula_is (each_use (is_good_cell p) (is_good_place p)) t
 
--- a formula has at most 1,500 tokens as it is written, and at most 64 brackets open at once
+-- a formula has no more tokens as it is written, and no more brackets open at once, than the language allows
 abbrev pub is_small : PlainProgram → PlainTensor → Bool
-is_small p t = formula_is (λ f. nat_le (token_count p f) 1500 && nat_le (most_open p f) 64) t
+is_small p t = formula_is (λ f. nat_le (token_count p f) most_tokens && nat_le (most_open p f) most_brackets) t
 
 -- a tensor has a formula exactly where it is no input
 abbrev pub has_formula_if_no_input : PlainTensor → Bool
@@ -40,7 +41,8 @@ names_of qs ts = map (λ q. q.name) qs ++ map (λ t. t.name) ts
 -- the types of the outputs
 abbrev pub output_types : List PlainTensor → List IntType
 output_types [] = []
-output_types (t ∷ ts) = elim t.role [ Input ↦ output_types ts | Local ↦ output_types ts | Output ↦ t.ty ∷ output_types ts ]
+output_types (t ∷ ts) =
+    elim t.role [ Input ↦ output_types ts | Local ↦ output_types ts | Output ↦ t.ty ∷ output_types ts ]
 
 -- the bytes of a cell of this type: the least of 1, 2, 4 and 8 that holds the width
 abbrev pub cell_size : IntType → ℕ
@@ -49,11 +51,12 @@ cell_size t = if nat_le t.bits 8 then 1 else (if nat_le t.bits 16 then 2 else (i
 -- whole cells of an input or output fill a burst of this width
 abbrev pub fills_burst : ℕ → PlainTensor → Bool
 fills_burst width t =
-    elim t.role [ Local ↦ true | Input ↦ width % (8 * cell_size t.ty) == 0 | Output ↦ width % (8 * cell_size t.ty) == 0 ]
+    elim t.role [ Local ↦ true | Input ↦ width % (8 * cell_size t.ty) == 0 | Output ↦ width %
+        (8 * cell_size t.ty) == 0 ]
 
--- at most two sizes, none of them 0
+-- no more sizes than a param may have, none of them 0
 abbrev pub is_good_param : PlainParam → Bool
-is_good_param q = nat_le (length q.sizes) 2 && list_all (λ n. not (n == 0)) q.sizes
+is_good_param q = nat_le (length q.sizes) most_sizes && list_all (λ n. not (n == 0)) q.sizes
 
 -- how many values the params have together
 abbrev pub value_count : List PlainParam → ℕ
@@ -62,16 +65,16 @@ value_count qs = sum_by (λ q. size q.sizes) qs
 -- the settings and the numbers of things are within their limits, and no extent is 0
 pub record KeepsLimits (p : PlainProgram) : Type 0 where
   pub some_lanes : 1 ≤ p.unroll
-  pub few_lanes : p.unroll ≤ 64
+  pub few_lanes : p.unroll ≤ most_unroll
   pub some_iterations : 1 ≤ p.iterate
-  pub few_iterations : p.iterate ≤ 64
-  pub few_dims : suc (length p.extents) ≤ 4
+  pub few_iterations : p.iterate ≤ most_iterate
+  pub few_dims : suc (length p.extents) ≤ most_dims
   pub extents : list_all (λ n. not (n == 0)) p.extents ≡ true
-  pub small_tile : size p.extents ≤ 16777216
-  pub few_tensors : length p.tensors ≤ 512
-  pub few_values : value_count p.params ≤ 65536
-  pub least_burst : 8 ≤ p.burst
-  pub most_burst : p.burst ≤ 8192
+  pub small_tile : size p.extents ≤ most_tile
+  pub few_tensors : length p.tensors ≤ most_tensors
+  pub few_values : value_count p.params ≤ most_values
+  pub least_burst : least_burst ≤ p.burst
+  pub most_burst : p.burst ≤ most_burst
 
 -- the names, params and formulas are good ones
 pub record HasGoodParts (p : PlainProgram) : Type 0 where
@@ -106,5 +109,5 @@ pub record IsSound (p : PlainProgram) : Type 0 where
 -- a valid program
 pub record IsValid (p : PlainProgram) : Type 0 where
   pub sound : IsSound p
-  pub few_live : live_count p ≤ 512
-  pub few_reads : read_count p ≤ 16384
+  pub few_live : live_count p ≤ most_live
+  pub few_reads : read_count p ≤ most_reads

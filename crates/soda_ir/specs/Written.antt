@@ -1,54 +1,25 @@
 -- How large a formula is as it is written in the canonical text: its tokens, and the brackets open at once.
 use Rattle.std.specs.Prelude.{ℕ, suc, ◌+◌, ◌*◌, ◌==◌, nat_lt, length, max, Some, None, slice_get, if◌then◌else◌}
-use Rattle.soda_words.specs.declared.operators.UnOp.{UnOp}
-use Rattle.soda_words.specs.declared.operators.UnOp.TheVariants.{Plus, Minus, Flip, Not, Abs}
 use Rattle.soda_words.specs.declared.operators.BinOp.{BinOp}
-use Rattle.soda_words.specs.declared.operators.BinOp.TheVariants.{LogOr, LogAnd, BitOr, BitXor, BitAnd, Eq, Ne, Lt, Le, Gt, Ge, Add, Sub, Mul, Div, Rem, Min, Max}
+use Rattle.soda_words.specs.declared.operators.UnOp.{UnOp}
+use Rattle.soda_words.specs.OperatorTable.{binary_row, operand_level, prefix_level, unary_row}
 use Rattle.soda_ir.specs.Formula.{Formula, number, read, param, unary, binary, choice, cast}
 use Rattle.soda_ir.specs.Program.{PlainProgram}
 
--- the level of an operator of two operands as it is written: 0 is the loosest, and a call has 10
-abbrev pub binary_level : BinOp → ℕ
-binary_level LogOr = 0
-binary_level LogAnd = 1
-binary_level BitOr = 2
-binary_level BitXor = 3
-binary_level BitAnd = 4
-binary_level Eq = 5
-binary_level Ne = 5
-binary_level Lt = 6
-binary_level Le = 6
-binary_level Gt = 6
-binary_level Ge = 6
-binary_level Add = 7
-binary_level Sub = 7
-binary_level Mul = 8
-binary_level Div = 8
-binary_level Rem = 8
-binary_level Min = 10
-binary_level Max = 10
-
--- the level of an operator of one operand as it is written: a call has 10
-abbrev pub unary_level : UnOp → ℕ
-unary_level Plus = 9
-unary_level Minus = 9
-unary_level Flip = 9
-unary_level Not = 9
-unary_level Abs = 10
-
 -- the level of a formula as it is written
 abbrev pub level_of : Formula → ℕ
-level_of (number n) = 10
-level_of (read t o) = 10
-level_of (param p k) = 10
-level_of (unary op a) = unary_level op
-level_of (binary op a b) = binary_level op
-level_of (choice c a b) = 10
-level_of (cast t a) = 10
+level_of (number n) = operand_level
+level_of (read t o) = operand_level
+level_of (param p k) = operand_level
+level_of (unary op a) = (unary_row op).level
+level_of (binary op a b) = (binary_row op).level
+level_of (choice c a b) = operand_level
+level_of (cast t a) = operand_level
 
--- the least level that an operand may have without brackets, where an operator asks for this one: what stands in a call needs none
+-- the least level that an operand may have without brackets, where an operator asks for this one: what stands in a
+-- call needs none
 abbrev pub least_bare : (operator asked : ℕ) → ℕ
-least_bare operator asked = if operator == 10 then 0 else asked
+least_bare operator asked = if operator == operand_level then 0 else asked
 
 -- how many pairs of brackets stand round an operand: one where its level is below the least
 abbrev pub pairs_round : (least : ℕ) → Formula → ℕ
@@ -56,23 +27,23 @@ pairs_round least a = if nat_lt (level_of a) least then 1 else 0
 
 -- round the operand of an operator of one operand: one that is an operator of two
 abbrev pub operand_pairs : UnOp → Formula → ℕ
-operand_pairs op a = pairs_round (least_bare (unary_level op) 9) a
+operand_pairs op a = pairs_round (least_bare (unary_row op).level prefix_level) a
 
 -- round a left operand: one that binds looser
 abbrev pub left_pairs : BinOp → Formula → ℕ
-left_pairs op a = pairs_round (least_bare (binary_level op) (binary_level op)) a
+left_pairs op a = pairs_round (least_bare (binary_row op).level (binary_row op).level) a
 
 -- round a right operand: one that binds looser, or as tightly
 abbrev pub right_pairs : BinOp → Formula → ℕ
-right_pairs op a = pairs_round (least_bare (binary_level op) (suc (binary_level op))) a
+right_pairs op a = pairs_round (least_bare (binary_row op).level (suc (binary_row op).level)) a
 
 -- the tokens of an operator alone: those of a call are its name, its brackets and its commas
 abbrev pub operator_tokens : (level call : ℕ) → ℕ
-operator_tokens level call = if level == 10 then call else 1
+operator_tokens level call = if level == operand_level then call else 1
 
 -- the brackets that an operator opens round all its operands: those of a call
 abbrev pub call_pairs : (level : ℕ) → ℕ
-call_pairs level = if level == 10 then 1 else 0
+call_pairs level = if level == operand_level then 1 else 0
 
 -- how many indexes a param has
 abbrev pub index_count : PlainProgram → ℕ → ℕ
@@ -83,9 +54,10 @@ abbrev pub token_count : PlainProgram → Formula → ℕ
 token_count p (number n) = 1
 token_count p (read t o) = 2 + 2 * length o
 token_count p (param k i) = 1 + 3 * index_count p k
-token_count p (unary op a) = operator_tokens (unary_level op) 3 + 2 * operand_pairs op a + token_count p a
+token_count p (unary op a) = operator_tokens (unary_row op).level 3 + 2 * operand_pairs op a + token_count p a
 token_count p (binary op a b) =
-    operator_tokens (binary_level op) 4 + (2 * left_pairs op a + token_count p a) + (2 * right_pairs op b + token_count p b)
+    operator_tokens (binary_row op).level 4 + (2 * left_pairs op a + token_count p a) +
+        (2 * right_pairs op b + token_count p b)
 token_count p (choice c a b) = 5 + token_count p c + token_count p a + token_count p b
 token_count p (cast t a) = 3 + token_count p a
 
@@ -94,8 +66,8 @@ abbrev pub most_open : PlainProgram → Formula → ℕ
 most_open p (number n) = 0
 most_open p (read t o) = 1
 most_open p (param k i) = if index_count p k == 0 then 0 else 1
-most_open p (unary op a) = call_pairs (unary_level op) + operand_pairs op a + most_open p a
+most_open p (unary op a) = call_pairs (unary_row op).level + operand_pairs op a + most_open p a
 most_open p (binary op a b) =
-    call_pairs (binary_level op) + max (left_pairs op a + most_open p a) (right_pairs op b + most_open p b)
+    call_pairs (binary_row op).level + max (left_pairs op a + most_open p a) (right_pairs op b + most_open p b)
 most_open p (choice c a b) = 1 + max (most_open p c) (max (most_open p a) (most_open p b))
 most_open p (cast t a) = 1 + most_open p a

@@ -1,18 +1,14 @@
-//! Stencil programs as data: what a valid one keeps, in which order its tensors can be placed, and how many live tensors
-//! and reads it has.
+//! Stencil programs as data: what a valid one keeps, which of its tensors can be placed, and how many live tensors and
+//! reads it has.
 #![tactic(auto)]
 
 mod expr;
 mod limit;
 mod live;
 mod make;
-#[cfg(test)]
-mod make_tests;
 mod order;
 mod params;
 mod placing;
-#[cfg(test)]
-mod placing_tests;
 mod program;
 mod reads;
 mod unique;
@@ -30,4 +26,4 @@ pub use program::{Border, Param, Parts, Program, Role, Tensor};
 /// Want of memory.
 pub use std::alloc::AllocError as NoMemory;
 pub use valid::{fill_burst, outputs_fit};
-pub use written::{binary_level, pairs_round, unary_level};
+pub use written::pairs_round;

@@ -12,7 +12,7 @@ use crate::valid::{
     has_good_params, has_good_tile, has_input, has_inputs_first, has_output, have_formulas,
     have_good_uses, outputs_fit,
 };
-use soda_words::is_name;
+use soda_words::{MOST_LIVE, MOST_READS, is_name};
 use std::alloc::{AllocError, Global};
 use thiserror::Error;
 
@@ -108,5 +108,5 @@ pub(crate) fn is_valid(alloc: Global, parts: &Parts) -> Result<bool, NoMemory>
         return Ok(false);
     }
     let totals = tally(alloc, parts)?;
-    Ok(totals.live <= 512 && totals.reads <= 16_384)
+    Ok(totals.live <= MOST_LIVE && totals.reads <= MOST_READS as u128)
 }

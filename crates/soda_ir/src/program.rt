@@ -188,7 +188,10 @@ impl Parts {
 
     /// The formula of a tensor, and None for an input and past the last tensor.
     pub fn formula(&self, tensor: u32) -> Option<&Expr>
-        ensures { option_map (λ f. formula_of f.now) result ≡ slice_index_or (map (λ t. t.formula) (plain self.now).tensors) tensor None }
+        ensures {
+            option_map (λ f. formula_of f.now) result
+                ≡ slice_index_or (map (λ t. t.formula) (plain self.now).tensors) tensor None
+        }
     {
         match self.tensors.get(tensor as usize) {
             Some(tensor) => match &tensor.formula {

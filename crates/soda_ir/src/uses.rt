@@ -8,20 +8,12 @@ use crate::expr::{Expr, Offset};
 use crate::params::product;
 use crate::program::{Parts, Tensor};
 use crate::written::{most_open, token_count};
-
-/// The greatest magnitude of an offset's component.
-const FAR: u64 = 32_768;
-
-/// The most tokens of a formula.
-const TOKENS: u64 = 1_500;
-
-/// The most brackets that are open at once in a formula.
-const BRACKETS: u64 = 64;
+use soda_words::{MOST_BRACKETS, MOST_OFFSET, MOST_TOKENS};
 
 fn is_near(offset: &[i64]) -> bool
     ensures { result ≡ is_near offset.now }
 {
-    offset.iter().all(|d| d.unsigned_abs() <= FAR)
+    offset.iter().all(|d| d.unsigned_abs() <= MOST_OFFSET)
 }
 
 fn is_good_cell(parts: &Parts, tensor: u32, offset: &Offset) -> bool
@@ -44,7 +36,9 @@ fn is_good_place(parts: &Parts, param: u32, place: u32) -> bool
 
 #[tactic(auto, using(crate::proofs::CallerLemmas::levels))]
 fn names_what_is_there(parts: &Parts, expr: &Expr) -> bool
-    ensures { result ≡ each_use (is_good_cell (plain parts.now)) (is_good_place (plain parts.now)) (formula_of expr.now) }
+    ensures {
+        result ≡ each_use (is_good_cell (plain parts.now)) (is_good_place (plain parts.now)) (formula_of expr.now)
+    }
 {
     match expr {
         Expr::Num(_) => true,
@@ -79,7 +73,8 @@ pub(crate) fn is_small(parts: &Parts, tensor: &Tensor) -> bool
 {
     match &tensor.formula {
         Some(formula) => {
-            token_count(parts, formula) <= TOKENS && most_open(parts, formula) <= BRACKETS
+            token_count(parts, formula) <= MOST_TOKENS as u64
+                && most_open(parts, formula) <= MOST_BRACKETS as u64
         }
         None => true,
     }

@@ -1,6 +1,7 @@
 ghost use Rattle.std.specs.Prelude.{◌≡◌, ◌<◌, ◌≤◌, ◌&&◌, ◌==◌, ◌↔◌, [], ◌∷◌, ◌++◌, suc, not, nat_le, map, length, IfOk, OnOk, IsTrue, if◌then◌else◌};
 ghost use Rattle.std.specs.List.{list_all, list_any};
 ghost use Rattle.soda_words.specs.IntType.{IntType};
+ghost use Rattle.soda_words.specs.Limits.{least_burst, most_burst, most_dims, most_iterate, most_tensors, most_tile, most_unroll, most_values};
 ghost use Rattle.soda_ir.specs.Counts.{is_input_role, is_output_role};
 ghost use Rattle.soda_ir.specs.Points.{size};
 ghost use Rattle.soda_ir.specs.Program.{input_types, plain, plain_param, plain_tensor};
@@ -10,41 +11,46 @@ use crate::NoMemory;
 use crate::params::{product, value_count};
 use crate::program::{Param, Parts, Role, Tensor};
 use crate::uses::{has_formula_if_no_input, has_good_uses, is_small};
-use soda_words::{Ty, cell_bytes};
+use soda_words::{
+    LEAST_BURST, MOST_BURST, MOST_DIMS, MOST_ITERATE, MOST_SIZES, MOST_TENSORS, MOST_TILE,
+    MOST_UNROLL, MOST_VALUES, Ty, cell_bytes,
+};
 use std::alloc::Global;
-
-/// The greatest product of the fixed extents.
-const TILE: u128 = 16_777_216;
-
-/// The most values of all params together.
-const VALUES: u128 = 65_536;
 
 /// Whether the unroll factor and the number of iterations are within their limits.
 pub(crate) fn has_good_factors(parts: &Parts) -> bool
-    ensures { result ≡ (nat_le 1 parts.now.unroll && nat_le parts.now.unroll 64 && nat_le 1 parts.now.iterate && nat_le parts.now.iterate 64) }
+    ensures {
+        result ≡ (nat_le 1 parts.now.unroll && nat_le parts.now.unroll most_unroll && nat_le 1 parts.now.iterate
+            && nat_le parts.now.iterate most_iterate)
+    }
 {
-    1 <= parts.unroll && parts.unroll <= 64 && 1 <= parts.iterate && parts.iterate <= 64
+    1 <= parts.unroll
+        && parts.unroll <= MOST_UNROLL
+        && 1 <= parts.iterate
+        && parts.iterate <= MOST_ITERATE
 }
 
-/// Whether a burst is from 8 to 8,192 bits wide.
+/// Whether the burst width is within its limits.
 pub(crate) fn has_good_burst(parts: &Parts) -> bool
-    ensures { result ≡ (nat_le 8 parts.now.burst && nat_le parts.now.burst 8192) }
+    ensures { result ≡ (nat_le least_burst parts.now.burst && nat_le parts.now.burst most_burst) }
 {
-    8 <= parts.burst && parts.burst <= 8_192
+    LEAST_BURST <= parts.burst && parts.burst <= MOST_BURST
 }
 
 /// Whether the numbers of dimensions and of tensors are within their limits.
 pub(crate) fn has_few_of_each(parts: &Parts) -> bool
-    ensures { result ≡ (nat_le (suc (length parts.now.extents)) 4 && nat_le (length parts.now.tensors) 512) }
+    ensures {
+        result ≡ (nat_le (suc (length parts.now.extents)) most_dims && nat_le (length parts.now.tensors) most_tensors)
+    }
 {
-    parts.extents.len() < 4 && parts.tensors.len() <= 512
+    parts.extents.len() < MOST_DIMS && parts.tensors.len() <= MOST_TENSORS
 }
 
 /// Whether no extent is 0, and their product is within its limit.
 pub(crate) fn has_good_tile(extents: &[u64]) -> bool
-    ensures { result ≡ (list_all (λ n. not (n == 0)) extents.now && nat_le (size extents.now) 16777216) }
+    ensures { result ≡ (list_all (λ n. not (n == 0)) extents.now && nat_le (size extents.now) most_tile) }
 {
-    has_no_zero(extents) && product(extents) <= TILE
+    has_no_zero(extents) && product(extents) <= MOST_TILE as u128
 }
 
 fn has_no_zero(numbers: &[u64]) -> bool
@@ -55,18 +61,18 @@ fn has_no_zero(numbers: &[u64]) -> bool
 
 /// Whether the params have few values together.
 pub(crate) fn has_few_values(params: &[Param]) -> bool
-    ensures { result ≡ nat_le (value_count (map plain_param params.now)) 65536 }
+    ensures { result ≡ nat_le (value_count (map plain_param params.now)) most_values }
 {
-    value_count(params) <= VALUES
+    value_count(params) <= MOST_VALUES as u128
 }
 
 fn is_good_param(param: &Param) -> bool
     ensures { result ≡ is_good_param (plain_param param.now) }
 {
-    param.sizes.len() <= 2 && has_no_zero(param.sizes.as_slice())
+    param.sizes.len() <= MOST_SIZES && has_no_zero(param.sizes.as_slice())
 }
 
-/// Whether each param has at most two sizes, none of them 0.
+/// Whether no param has too many sizes or one that is 0.
 pub(crate) fn has_good_params(params: &[Param]) -> bool
     ensures { result ≡ list_all (λ q. is_good_param (plain_param q)) params.now }
 {
@@ -190,7 +196,10 @@ fn types_out(alloc: Global, tensors: &[Tensor]) -> Result<Vec<Ty>, NoMemory>
 
 /// Whether there are as many inputs as outputs, of equal types in order.
 pub fn outputs_fit(alloc: Global, tensors: &[Tensor]) -> Result<bool, NoMemory>
-    ensures { IfOk result (λ fit. IsTrue fit ↔ (input_types (map plain_tensor tensors.now) ≡ output_types (map plain_tensor tensors.now))) }
+    ensures {
+        IfOk result (λ fit. IsTrue fit ↔ (input_types (map plain_tensor tensors.now)
+            ≡ output_types (map plain_tensor tensors.now)))
+    }
 {
     let inputs = types_in(alloc, tensors)?;
     let outputs = types_out(alloc, tensors)?;

@@ -1,46 +1,20 @@
 ghost use Rattle.std.specs.Prelude.{◌≡◌, ◌≤◌, length, min};
 ghost use Rattle.soda_ir.specs.Program.{plain};
 ghost use Rattle.soda_ir.specs.Tree.{formula_of};
-ghost use Rattle.soda_ir.specs.Written.{binary_level, call_pairs, index_count, least_bare, level_of, most_open, operator_tokens, pairs_round, token_count, unary_level};
+ghost use Rattle.soda_ir.specs.Written.{call_pairs, index_count, least_bare, level_of, most_open, operator_tokens, pairs_round, token_count};
 
 use crate::expr::Expr;
 use crate::program::Parts;
-use soda_words::{BinOp, UnOp};
+use soda_words::{OPERAND_LEVEL, PREFIX_LEVEL};
 
 // No formula of so many tokens is told from a larger one.
 const MANY: u64 = 10_000;
 
 // The level of a call.
-const CALL: u64 = 10;
+const CALL: u64 = OPERAND_LEVEL as u64;
 
-/// The level of an operator of two operands as it is written: 0 is the loosest, and a call has 10.
-pub fn binary_level(op: BinOp) -> u64
-    ensures value { result ≡ binary_level op }
-    ensures most { result ≤ 10 }
-{
-    match op {
-        BinOp::LogOr => 0,
-        BinOp::LogAnd => 1,
-        BinOp::BitOr => 2,
-        BinOp::BitXor => 3,
-        BinOp::BitAnd => 4,
-        BinOp::Eq | BinOp::Ne => 5,
-        BinOp::Lt | BinOp::Le | BinOp::Gt | BinOp::Ge => 6,
-        BinOp::Add | BinOp::Sub => 7,
-        BinOp::Mul | BinOp::Div | BinOp::Rem => 8,
-        BinOp::Min | BinOp::Max => CALL,
-    }
-}
-
-/// The level of an operator of one operand as it is written: a prefix operator has 9, and a call 10.
-pub fn unary_level(op: UnOp) -> u64
-    ensures { result ≡ unary_level op }
-{
-    match op {
-        UnOp::Plus | UnOp::Minus | UnOp::Flip | UnOp::Not => 9,
-        UnOp::Abs => CALL,
-    }
-}
+// The level that a prefix operator asks of its operand.
+const PREFIX: u64 = PREFIX_LEVEL as u64;
 
 #[tactic(auto, using(crate::proofs::CallerLemmas::levels))]
 fn level_of(expr: &Expr) -> u64
@@ -48,8 +22,8 @@ fn level_of(expr: &Expr) -> u64
 {
     match expr {
         Expr::Num(_) | Expr::Cell { .. } | Expr::Par { .. } => CALL,
-        Expr::Un(op, _) => unary_level(*op),
-        Expr::Bin(op, _, _) => binary_level(*op),
+        Expr::Un(op, _) => op.level() as u64,
+        Expr::Bin(op, _, _) => op.level() as u64,
         Expr::Select(_, _, _) | Expr::Cast(_, _) => CALL,
     }
 }
@@ -91,12 +65,12 @@ pub(crate) fn token_count(parts: &Parts, expr: &Expr) -> u64
         Expr::Cell { offset, .. } => (2 + 2 * offset.len() as u64).min(MANY),
         Expr::Par { param, .. } => (1 + 3 * parts.index_count(*param).min(MANY)).min(MANY),
         Expr::Un(op, a) => {
-            let level = unary_level(*op);
-            let round = 2 * pairs_round(level, 9, a.get());
+            let level = op.level() as u64;
+            let round = 2 * pairs_round(level, PREFIX, a.get());
             (operator_tokens(level, 3) + round + token_count(parts, a.get())).min(MANY)
         }
         Expr::Bin(op, a, b) => {
-            let level = binary_level(*op);
+            let level = op.level() as u64;
             let left = 2 * pairs_round(level, level, a.get()) + token_count(parts, a.get());
             let right = 2 * pairs_round(level, level + 1, b.get()) + token_count(parts, b.get());
             (operator_tokens(level, 4) + left + right).min(MANY)
@@ -119,12 +93,12 @@ pub(crate) fn most_open(parts: &Parts, expr: &Expr) -> u64
         Expr::Cell { .. } => 1,
         Expr::Par { param, .. } => parts.index_count(*param).min(1),
         Expr::Un(op, a) => {
-            let level = unary_level(*op);
-            let round = call_pairs(level) + pairs_round(level, 9, a.get());
+            let level = op.level() as u64;
+            let round = call_pairs(level) + pairs_round(level, PREFIX, a.get());
             (round + most_open(parts, a.get())).min(MANY)
         }
         Expr::Bin(op, a, b) => {
-            let level = binary_level(*op);
+            let level = op.level() as u64;
             let left = pairs_round(level, level, a.get()) + most_open(parts, a.get());
             let right = pairs_round(level, level + 1, b.get()) + most_open(parts, b.get());
             (call_pairs(level) + left.max(right)).min(MANY)

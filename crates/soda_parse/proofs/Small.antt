@@ -8,6 +8,7 @@ use Rattle.std.proofs.lemmas.Grind.{common_steps}
 use Rattle.std.proofs.lemmas.List.{take-append-drop}
 use Rattle.std.proofs.lemmas.List.Folds.{find_at, list_all-append}
 use Rattle.std.proofs.lemmas.Option.{slice_get-map}
+use Rattle.soda_words.specs.OperatorTable.{binary_row, unary_row}
 use Rattle.soda_words.specs.declared.operators.UnOp.{UnOp}
 use Rattle.soda_words.specs.declared.operators.BinOp.{BinOp}
 use Rattle.soda_words.specs.declared.operators.BinOp.TheVariants.{Min, Max}
@@ -28,7 +29,7 @@ use Rattle.soda_checks.specs.declared.outline.Site.TheVariants.{Left, Value}
 use Rattle.soda_ir.specs.Formula.{Formula, unary as unary_formula, binary as binary_formula}
 use Rattle.soda_ir.specs.Program.{PlainProgram, PlainParam}
 use Rattle.soda_ir.specs.Valid.{is_small}
-use Rattle.soda_ir.specs.Written.{binary_level, index_count, most_open, pairs_round, token_count, unary_level, least_bare, operator_tokens, call_pairs}
+use Rattle.soda_ir.specs.Written.{index_count, most_open, pairs_round, token_count, least_bare, operator_tokens, call_pairs}
 use Rattle.soda_parse.specs.Meaning.{cell_formula, formula_of, is_offset, named_value, offset_or_none, param_of, shifted, tensor_number, tensors_in, value_formula}
 use Rattle.soda_parse.proofs.SameTypes.{both_of}
 use Rattle.soda_parse.proofs.Tiling.{none_here, false_not}
@@ -180,7 +181,7 @@ takes_value w ts ks e are = record {
 
 -- what an operator between two operands is
 record GoodInfix (s : Symbol) (r : Infix) : Type 0 where
-  pub level : binary_level r.op ≡ r.level
+  pub level : (binary_row r.op).level ≡ r.level
   pub bare : (r.level == 10) ≡ false
   pub passing : IsPassing s
 
@@ -212,7 +213,7 @@ infix_facts _ = tt
 
 -- what a prefix operator is
 record GoodPrefix (s : Symbol) (op : UnOp) : Type 0 where
-  pub level : unary_level op ≡ 9
+  pub level : (unary_row op).level ≡ 9
   pub passing : IsPassing s
 
 abbrev PrefixFacts : Symbol → Option UnOp → Type 0
@@ -228,7 +229,7 @@ prefix_facts _ = tt
 
 -- what a call of two operands is
 record GoodCall (op : BinOp) (text : List ℕ) : Type 0 where
-  pub level : binary_level op ≡ 10
+  pub level : (binary_row op).level ≡ 10
   pub reserved : is_reserved text ≡ true
 
 abbrev CallFacts : BinOp → Option (List ℕ) → Type 0
@@ -276,26 +277,26 @@ bare_opens : (level : ℕ) (f g : Formula) (m n : ℕ) → (level == 10) ≡ fal
 bare_opens level f g m n e = ap (λ (b : Bool). (if b then 1 else 0) + max (pairs_round (if b then 0 else level) f + m) (pairs_round (if b then 0 else suc level) g + n)) e
 
 -- an operator between two operands that are written as they were
-infix_tokens : (p : PlainProgram) (op : BinOp) (level : ℕ) (f g : Formula) → binary_level op ≡ level → (level == 10) ≡ false → token_count p (binary_formula op f g) + 2 * pairs_round level (binary_formula op f g) ≤ token_count p f + 2 * pairs_round level f + 1 + (token_count p g + 2 * pairs_round (suc level) g)
+infix_tokens : (p : PlainProgram) (op : BinOp) (level : ℕ) (f g : Formula) → (binary_row op).level ≡ level → (level == 10) ≡ false → token_count p (binary_formula op f g) + 2 * pairs_round level (binary_formula op f g) ≤ token_count p f + 2 * pairs_round level f + 1 + (token_count p g + 2 * pairs_round (suc level) g)
 infix_tokens p op level f g e bare =
     let same : token_count p (binary_formula op f g) ≡ pair_tokens level f g (token_count p f) (token_count p g) = ap (λ (l : ℕ). pair_tokens l f g (token_count p f) (token_count p g)) e in
     let none : pairs_round level (binary_formula op f g) ≡ 0 = ap (λ (l : ℕ). pairs_by l level) e ∙ ap (λ (b : Bool). if b then 1 else 0) (not_below level) in
     omega (arith, same, bare_tokens level f g (token_count p f) (token_count p g) bare, none)
 
-infix_opens : (p : PlainProgram) (op : BinOp) (level : ℕ) (f g : Formula) → binary_level op ≡ level → (level == 10) ≡ false → most_open p (binary_formula op f g) + pairs_round level (binary_formula op f g) ≤ max (most_open p f + pairs_round level f) (most_open p g + pairs_round (suc level) g)
+infix_opens : (p : PlainProgram) (op : BinOp) (level : ℕ) (f g : Formula) → (binary_row op).level ≡ level → (level == 10) ≡ false → most_open p (binary_formula op f g) + pairs_round level (binary_formula op f g) ≤ max (most_open p f + pairs_round level f) (most_open p g + pairs_round (suc level) g)
 infix_opens p op level f g e bare =
     let same : most_open p (binary_formula op f g) ≡ pair_opens level f g (most_open p f) (most_open p g) = ap (λ (l : ℕ). pair_opens l f g (most_open p f) (most_open p g)) e in
     let none : pairs_round level (binary_formula op f g) ≡ 0 = ap (λ (l : ℕ). pairs_by l level) e ∙ ap (λ (b : Bool). if b then 1 else 0) (not_below level) in
     omega (arith, same, bare_opens level f g (most_open p f) (most_open p g) bare, none)
 
 -- a call of two operands
-call_tokens : (p : PlainProgram) (op : BinOp) (f g : Formula) → binary_level op ≡ 10 → token_count p (binary_formula op f g) + 2 * pairs_round 10 (binary_formula op f g) ≤ 1 + (token_count p f + 2 * pairs_round 0 f + 1 + (token_count p g + 2 * pairs_round 0 g) + 2)
+call_tokens : (p : PlainProgram) (op : BinOp) (f g : Formula) → (binary_row op).level ≡ 10 → token_count p (binary_formula op f g) + 2 * pairs_round 10 (binary_formula op f g) ≤ 1 + (token_count p f + 2 * pairs_round 0 f + 1 + (token_count p g + 2 * pairs_round 0 g) + 2)
 call_tokens p op f g e =
     let same : token_count p (binary_formula op f g) ≡ pair_tokens 10 f g (token_count p f) (token_count p g) = ap (λ (l : ℕ). pair_tokens l f g (token_count p f) (token_count p g)) e in
     let none : pairs_round 10 (binary_formula op f g) ≡ 0 = ap (λ (l : ℕ). pairs_by l 10) e in
     omega (arith, same, none)
 
-call_opens : (p : PlainProgram) (op : BinOp) (f g : Formula) → binary_level op ≡ 10 → most_open p (binary_formula op f g) + pairs_round 10 (binary_formula op f g) ≤ max (most_open p f + pairs_round 0 f) (most_open p g + pairs_round 0 g) + 1
+call_opens : (p : PlainProgram) (op : BinOp) (f g : Formula) → (binary_row op).level ≡ 10 → most_open p (binary_formula op f g) + pairs_round 10 (binary_formula op f g) ≤ max (most_open p f + pairs_round 0 f) (most_open p g + pairs_round 0 g) + 1
 call_opens p op f g e =
     let same : most_open p (binary_formula op f g) ≡ pair_opens 10 f g (most_open p f) (most_open p g) = ap (λ (l : ℕ). pair_opens l f g (most_open p f) (most_open p g)) e in
     let none : pairs_round 10 (binary_formula op f g) ≡ 0 = ap (λ (l : ℕ). pairs_by l 10) e in
@@ -308,13 +309,13 @@ one_tokens level f m = operator_tokens level 3 + 2 * pairs_round (least_bare lev
 abbrev one_opens : (level : ℕ) (f : Formula) (m : ℕ) → ℕ
 one_opens level f m = call_pairs level + pairs_round (least_bare level 9) f + m
 
-prefix_tokens : (p : PlainProgram) (op : UnOp) (f : Formula) → unary_level op ≡ 9 → token_count p (unary_formula op f) + 2 * pairs_round 9 (unary_formula op f) ≤ 1 + (token_count p f + 2 * pairs_round 9 f)
+prefix_tokens : (p : PlainProgram) (op : UnOp) (f : Formula) → (unary_row op).level ≡ 9 → token_count p (unary_formula op f) + 2 * pairs_round 9 (unary_formula op f) ≤ 1 + (token_count p f + 2 * pairs_round 9 f)
 prefix_tokens p op f e =
     let same : token_count p (unary_formula op f) ≡ one_tokens 9 f (token_count p f) = ap (λ (l : ℕ). one_tokens l f (token_count p f)) e in
     let none : pairs_round 9 (unary_formula op f) ≡ 0 = ap (λ (l : ℕ). pairs_by l 9) e in
     omega (arith, same, none)
 
-prefix_opens : (p : PlainProgram) (op : UnOp) (f : Formula) → unary_level op ≡ 9 → most_open p (unary_formula op f) + pairs_round 9 (unary_formula op f) ≤ most_open p f + pairs_round 9 f
+prefix_opens : (p : PlainProgram) (op : UnOp) (f : Formula) → (unary_row op).level ≡ 9 → most_open p (unary_formula op f) + pairs_round 9 (unary_formula op f) ≤ most_open p f + pairs_round 9 f
 prefix_opens p op f e =
     let same : most_open p (unary_formula op f) ≡ one_opens 9 f (most_open p f) = ap (λ (l : ℕ). one_opens l f (most_open p f)) e in
     let none : pairs_round 9 (unary_formula op f) ≡ 0 = ap (λ (l : ℕ). pairs_by l 9) e in

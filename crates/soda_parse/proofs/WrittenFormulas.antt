@@ -3,6 +3,7 @@ use Rattle.std.proofs.Common.{◌≡◌, ℕ, zero, suc, ◌<◌, ◌≤◌, ◌
 use Rattle.std.specs.Prelude.{slice_get, if◌then◌else◌}
 use Rattle.std.specs.Fmt.{decimal}
 use Rattle.std.proofs.lemmas.Bool.Decides.{eqb_tells, nat_tests}
+use Rattle.soda_words.specs.OperatorTable.{binary_row, unary_row}
 use Rattle.soda_words.specs.IntType.{IntType, IsType}
 use Rattle.soda_words.specs.declared.operators.UnOp.{UnOp}
 use Rattle.soda_words.specs.declared.operators.UnOp.TheVariants.{Plus, Minus, Flip, Not, Abs}
@@ -14,7 +15,7 @@ use Rattle.soda_ir.specs.Formula.{Formula, number, read, param as value_of, unar
 use Rattle.soda_ir.specs.Points.{size}
 use Rattle.soda_ir.specs.Program.{PlainParam, PlainProgram}
 use Rattle.soda_ir.specs.Uses.{each_use, is_good_cell, is_good_place}
-use Rattle.soda_ir.specs.Written.{binary_level, left_pairs, level_of, operand_pairs, pairs_round, right_pairs, unary_level}
+use Rattle.soda_ir.specs.Written.{left_pairs, level_of, operand_pairs, pairs_round, right_pairs}
 use Rattle.soda_print.specs.Canonical.{indexes, tensor_name, type_text}
 use Rattle.soda_print.specs.Sized.{IsSized}
 use Rattle.soda_print.proofs.Tokens.{number_is, on_line}
@@ -80,7 +81,7 @@ call_term : (line : ℕ) (op : BinOp) (w : List ℕ) (ts us : List Token) (a b :
 call_term line op w ts us a b e t u =
     subst (λ (ps : List Placed). IsTerm 10 (name_on line w ∷ symbol_on line OpenRound ∷ ps) (binary_term op a b)) (sym (two_inside line ts us)) (a_call line line line line op w e t u)
 
-binary_by : (line : ℕ) (op : BinOp) (f g : Formula) (ts us : List Token) (a b : Term) → IsTerm (level_of f) (on line ts) a → IsTerm (level_of g) (on line us) b → IsTerm (binary_level op) (on line (binary_tokens op (left_pairs op f) (right_pairs op g) ts us)) (binary_term op a b)
+binary_by : (line : ℕ) (op : BinOp) (f g : Formula) (ts us : List Token) (a b : Term) → IsTerm (level_of f) (on line ts) a → IsTerm (level_of g) (on line us) b → IsTerm (binary_row op).level (on line (binary_tokens op (left_pairs op f) (right_pairs op g) ts us)) (binary_term op a b)
 binary_by line LogOr f g ts us a b t u = infix_term line 0 BarBar LogOr f g ts us a b refl (omega arith) t u
 binary_by line LogAnd f g ts us a b t u = infix_term line 1 AmpAmp LogAnd f g ts us a b refl (omega arith) t u
 binary_by line BitOr f g ts us a b t u = infix_term line 2 Bar BitOr f g ts us a b refl (omega arith) t u
@@ -102,7 +103,7 @@ binary_by line Min f g ts us a b t u =
 binary_by line Max f g ts us a b t u =
     call_term line Max (codes "max") ts us a b refl (loosen (level_of f) 0 (omega arith) t) (loosen (level_of g) 0 (omega arith) u)
 
-unary_by : (line : ℕ) (op : UnOp) (f : Formula) (ts : List Token) (a : Term) → IsTerm (level_of f) (on line ts) a → IsTerm (unary_level op) (on line (unary_tokens op (operand_pairs op f) ts)) (unary_term op a)
+unary_by : (line : ℕ) (op : UnOp) (f : Formula) (ts : List Token) (a : Term) → IsTerm (level_of f) (on line ts) a → IsTerm (unary_row op).level (on line (unary_tokens op (operand_pairs op f) ts)) (unary_term op a)
 unary_by line Plus f ts a t = prefixed line PlusSign Plus refl (paired line 9 f ts a (omega arith) t)
 unary_by line Minus f ts a t = prefixed line MinusSign Minus refl (paired line 9 f ts a (omega arith) t)
 unary_by line Flip f ts a t = prefixed line Tilde Flip refl (paired line 9 f ts a (omega arith) t)

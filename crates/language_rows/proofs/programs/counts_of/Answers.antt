@@ -2,8 +2,8 @@ use Rattle.std.proofs.Common.{subst, sym}
 use Rattle.soda_ir.specs.declared.program.Parts.{Parts}
 use Rattle.soda_ir.specs.Counts.{IsCountable}
 use Rattle.soda_ir.specs.Program.{plain}
-use Rattle.soda_ir.proofs.Groups.{countable}
-use Rattle.soda_ir.proofs.make_tests.counts_of.Goals as goal
+use Rattle.soda_ir.proofs.CallerLemmas.{countable}
+use Rattle.language_rows.proofs.programs.counts_of.Goals as goal
 
 pub live_count-requires : goal.live_count-requires
 live_count-requires c =
