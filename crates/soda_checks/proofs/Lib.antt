@@ -1,4 +1,5 @@
 pub mod Appended
+pub mod CallerLemmas
 pub mod Listed
 pub mod Outlines
 pub mod Tiles

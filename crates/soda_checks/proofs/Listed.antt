@@ -15,10 +15,6 @@ use Rattle.soda_words.specs.declared.token.Word.{Word}
 pub listed : (w : List ℕ) (names : List (List ℕ)) → is_some (position (is_word w) names) ≡ list_any (is_word w) names
 listed w names = words.is_some-position (is_word w) names
 
--- a place among names is one among what has them
-pub placed : {X : Type 0} (name : X → List ℕ) (w : List ℕ) (xs : List X) → position (is_word w) (map name xs) ≡ position (λ x. is_word w (name x)) xs
-placed name w xs = words.position-map name (is_word w) xs
-
 -- a test of images
 pub list_any_map : {X Y : Type 0} (f : X → Y) (p : Y → Bool) (xs : List X) → list_any p (map f xs) ≡ list_any (λ x. p (f x)) xs
 list_any_map f p [] = refl

@@ -6,9 +6,7 @@ use Rattle.soda_ir.specs.Valid.{IsValid}
 use Rattle.soda_parse.specs.Text.{Accepts}
 use Rattle.soda_print.specs.Canonical.{canonical}
 use Rattle.soda_print.specs.Sized.{IsSizedProgram}
-use Rattle.soda_print.proofs.Ascii.{canonical_ascii}
-use Rattle.soda_print.proofs.Readable.{canonical_read, readable}
-use Rattle.soda_print.proofs.Short.{canonical_short}
+use Rattle.soda_print.proofs.CallerLemmas.{canonical_ascii, canonical_read, canonical_short, readable}
 use Rattle.soda_syntax.specs.SyntaxError.{IsSyntax}
 use Rattle.soda_words.specs.declared.token.Placed.{Placed}
 use Rattle.soda_parse.proofs.Exclusive.{program_is_one}

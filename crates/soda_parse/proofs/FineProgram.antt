@@ -18,7 +18,7 @@ use Rattle.soda_parse.specs.ProgramConditions.{are_same_types, bad_burst, circul
 use Rattle.soda_parse.specs.Meaning.{tile_items}
 use Rattle.soda_parse.specs.Text.{count_refusal, late_refusal, names_refusal, refusal_by, shape_refusal, size_refusal, statement_refusal, use_refusal}
 use Rattle.soda_print.specs.Sized.{IsSizedProgram}
-use Rattle.soda_print.proofs.Readable.{positive}
+use Rattle.soda_print.proofs.CallerLemmas.{positive}
 use Rattle.soda_formula.specs.declared.statement.Extent.{Extent}
 use Rattle.soda_formula.specs.declared.statement.Extent.TheVariants.{Fixed, Open}
 use Rattle.soda_formula.specs.declared.statement.InputLine.{InputLine}

@@ -16,7 +16,7 @@ use Rattle.soda_ir.specs.declared.program.Border.TheVariants.{Ignore, Preserve}
 use Rattle.soda_parse.specs.Meaning.{border_of, fixed_in, input_of, param_of, program_by, tensor_number, tensors_in}
 use Rattle.soda_print.specs.Canonical.{tensor_name}
 use Rattle.soda_print.specs.Sized.{AreSizedParams, AreSizedTensors, IsSized, IsSizedProgram}
-use Rattle.soda_print.proofs.Readable.{count_there}
+use Rattle.soda_print.proofs.CallerLemmas.{count_there}
 use Rattle.soda_formula.specs.declared.statement.ParamLine.{ParamLine}
 use Rattle.soda_parse.proofs.SameTypes.{both_of}
 use Rattle.soda_parse.proofs.Back.{AreBack, AreTyped, IsBack, fixed_back, number_is, outline_names, outline_params, outline_tensors, outline_tile, param_lines, params_back, tensor_names}

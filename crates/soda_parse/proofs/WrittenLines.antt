@@ -15,8 +15,7 @@ use Rattle.soda_ir.specs.declared.program.Border.{Border}
 use Rattle.soda_ir.specs.declared.program.Border.TheVariants.{Ignore, Preserve}
 use Rattle.soda_print.specs.Canonical.{border_word, role_word, tensor_name, type_text}
 use Rattle.soda_print.specs.Sized.{AreSizedTensors, IsSized, IsSizedProgram}
-use Rattle.soda_print.proofs.Read.{canonical_tokens, left_tokens, param_tokens, placed_lines, tensor_tokens, tile_tokens}
-use Rattle.soda_print.proofs.Tokenized.{formula_tokens, index_tokens, listed_tokens}
+use Rattle.soda_print.proofs.CallerLemmas.{canonical_tokens, formula_tokens, index_tokens, left_tokens, listed_tokens, param_tokens, placed_lines, tensor_tokens, tile_tokens}
 use Rattle.soda_syntax.specs.Grammar.{IsExtent, a_number, a_star, AreSizes, no_size, size_before, no_bank, MayBeType, a_tile, IsLeftSide, IsLocalHead, IsOutputHead, IsStatement, a_kernel, a_burst_width, an_unroll_factor, an_iterate, ignored_border, preserved_border, a_param, an_input as an_input_line, a_local as a_local_line, an_output as an_output_line}
 use Rattle.soda_syntax.proofs.CallerLemmas.{AreSmallStatements, none_small, small_before, IsSmallFormula, IsSmallLine, formula_small, plain_small, small_syntax}
 use Rattle.soda_syntax.specs.SyntaxError.{IsHead, IsSyntax}

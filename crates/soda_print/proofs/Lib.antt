@@ -9,3 +9,4 @@ pub mod Readable
 pub mod Sizing
 pub mod Ascii
 pub mod Short
+pub mod CallerLemmas

@@ -98,7 +98,9 @@ star_first (b ∷ bs) line = refl
 -- the tokens of the settings' lines
 abbrev pub setting_tokens : PlainProgram → List (List Token)
 setting_tokens p =
-    (Name (codes "kernel") ∷ Sign Colon ∷ Name p.kernel ∷ []) ∷ (Name (codes "burst") ∷ Name (codes "width") ∷ Sign Colon ∷ Number p.burst ∷ []) ∷ (Name (codes "unroll") ∷ Name (codes "factor") ∷ Sign Colon ∷ Number p.unroll ∷ []) ∷ (Name (codes "iterate") ∷ Sign Colon ∷ Number p.iterate ∷ []) ∷ (Name (codes "border") ∷ Sign Colon ∷ Name (border_word p.border) ∷ []) ∷ []
+    (Name (codes "kernel") ∷ Sign Colon ∷ Name p.kernel ∷ []) ∷ (Name (codes "burst") ∷ Name (codes "width") ∷ Sign Colon ∷ Number p.burst ∷ []) ∷
+    (Name (codes "unroll") ∷ Name (codes "factor") ∷ Sign Colon ∷ Number p.unroll ∷ []) ∷
+    (Name (codes "iterate") ∷ Sign Colon ∷ Number p.iterate ∷ []) ∷ (Name (codes "border") ∷ Sign Colon ∷ Name (border_word p.border) ∷ []) ∷ []
 
 -- the settings can be read
 pub record AreSettings (p : PlainProgram) : Type 0 where
@@ -109,14 +111,22 @@ pub record AreSettings (p : PlainProgram) : Type 0 where
 
 settings_lex : (p : PlainProgram) → AreSettings p → AllLexed (setting_lines p) (setting_tokens p)
 settings_lex p h = (
-  λ line. mark_then line (codes "kernel: ") p.kernel (Name (codes "kernel") ∷ Sign Colon ∷ []) (Name p.kernel ∷ []) (kernel_word line) (a_name line p.kernel h.kernel),
+  λ line. mark_then line (codes "kernel: ") p.kernel (Name (codes "kernel") ∷ Sign Colon ∷ []) (Name p.kernel ∷ []) (kernel_word line)
+      (a_name line p.kernel h.kernel),
   (
-    λ line. mark_then line (codes "burst width: ") (decimal p.burst) (Name (codes "burst") ∷ Name (codes "width") ∷ Sign Colon ∷ []) (Number p.burst ∷ []) (burst_word line) (a_number line p.burst h.burst),
+    λ line. mark_then line (codes "burst width: ") (decimal p.burst) (Name (codes "burst") ∷ Name (codes "width") ∷ Sign Colon ∷ [])
+        (Number p.burst ∷ []) (burst_word line) (a_number line p.burst h.burst),
     (
-      λ line. mark_then line (codes "unroll factor: ") (decimal p.unroll) (Name (codes "unroll") ∷ Name (codes "factor") ∷ Sign Colon ∷ []) (Number p.unroll ∷ []) (unroll_word line) (a_number line p.unroll h.unroll),
+      λ line. mark_then line (codes "unroll factor: ") (decimal p.unroll) (Name (codes "unroll") ∷ Name (codes "factor") ∷ Sign Colon ∷ [])
+          (Number p.unroll ∷ []) (unroll_word line) (a_number line p.unroll h.unroll),
       (
-        λ line. mark_then line (codes "iterate: ") (decimal p.iterate) (Name (codes "iterate") ∷ Sign Colon ∷ []) (Number p.iterate ∷ []) (iterate_word line) (a_number line p.iterate h.iterate),
-        (λ line. mark_then line (codes "border: ") (border_word p.border) (Name (codes "border") ∷ Sign Colon ∷ []) (Name (border_word p.border) ∷ []) (border_start line) (a_name line (border_word p.border) (border_named p.border)), tt),
+        λ line. mark_then line (codes "iterate: ") (decimal p.iterate) (Name (codes "iterate") ∷ Sign Colon ∷ []) (Number p.iterate ∷ [])
+            (iterate_word line) (a_number line p.iterate h.iterate),
+        (
+          λ line. mark_then line (codes "border: ") (border_word p.border) (Name (codes "border") ∷ Sign Colon ∷ []) (Name (border_word p.border) ∷ [])
+              (border_start line) (a_name line (border_word p.border) (border_named p.border)),
+          tt,
+        ),
       ),
     ),
   ),
@@ -126,12 +136,22 @@ settings_lex p h = (
 abbrev pub head_tokens : List ℕ → IntType → List ℕ → List Token
 head_tokens word ty name = (Name word ∷ []) ++ ([] ++ ((Name (type_text ty) ∷ []) ++ ((Sign Colon ∷ []) ++ (Name name ∷ []))))
 
-head_lex : (line : ℕ) (word : List ℕ) (ty : IntType) (name : List ℕ) → is_name word ≡ true → is_name (type_text ty) ≡ true → is_name name ≡ true → Lexes line (headed word ty name) (head_tokens word ty name)
+head_lex : (line : ℕ) (word : List ℕ) (ty : IntType) (name : List ℕ) → is_name word ≡ true → is_name (type_text ty) ≡ true → is_name name ≡ true
+    → Lexes line (headed word ty name) (head_tokens word ty name)
 head_lex line word ty name h k n rest s =
-    let third : Lexes line (codes ": " ++ name) ((Sign Colon ∷ []) ++ (Name name ∷ [])) = mark_then line (codes ": ") name (Sign Colon ∷ []) (Name name ∷ []) (a_colon line) (a_name line name n) in
-    let second : tokens_behind 0 line ((type_text ty ++ (codes ": " ++ name)) ++ rest) ≡ map (on_line line) ((Name (type_text ty) ∷ []) ++ ((Sign Colon ∷ []) ++ (Name name ∷ []))) ++ tokens_behind 0 line rest = joined line (type_text ty) (codes ": " ++ name) rest (Name (type_text ty) ∷ []) ((Sign Colon ∷ []) ++ (Name name ∷ [])) (a_name line (type_text ty) k ((codes ": " ++ name) ++ rest) refl) (third rest s) in
-    let first : tokens_behind 0 line ((codes " " ++ (type_text ty ++ (codes ": " ++ name))) ++ rest) ≡ map (on_line line) ([] ++ ((Name (type_text ty) ∷ []) ++ ((Sign Colon ∷ []) ++ (Name name ∷ [])))) ++ tokens_behind 0 line rest = joined line (codes " ") (type_text ty ++ (codes ": " ++ name)) rest [] ((Name (type_text ty) ∷ []) ++ ((Sign Colon ∷ []) ++ (Name name ∷ []))) (a_blank line ((type_text ty ++ (codes ": " ++ name)) ++ rest)) second in
-    joined line word (codes " " ++ (type_text ty ++ (codes ": " ++ name))) rest (Name word ∷ []) ([] ++ ((Name (type_text ty) ∷ []) ++ ((Sign Colon ∷ []) ++ (Name name ∷ [])))) (a_name line word h ((codes " " ++ (type_text ty ++ (codes ": " ++ name))) ++ rest) refl) first
+    let third : Lexes line (codes ": " ++ name) ((Sign Colon ∷ []) ++ (Name name ∷ [])) = mark_then line (codes ": ") name (Sign Colon ∷ [])
+    (Name name ∷ []) (a_colon line) (a_name line name n) in
+    let second : tokens_behind 0 line ((type_text ty ++ (codes ": " ++ name)) ++ rest) ≡ map (on_line line)
+    ((Name (type_text ty) ∷ []) ++ ((Sign Colon ∷ []) ++ (Name name ∷ []))) ++ tokens_behind 0 line rest = joined line (type_text ty)
+    (codes ": " ++ name) rest (Name (type_text ty) ∷ []) ((Sign Colon ∷ []) ++ (Name name ∷ []))
+    (a_name line (type_text ty) k ((codes ": " ++ name) ++ rest) refl) (third rest s) in
+    let first : tokens_behind 0 line ((codes " " ++ (type_text ty ++ (codes ": " ++ name))) ++ rest) ≡ map (on_line line)
+    ([] ++ ((Name (type_text ty) ∷ []) ++ ((Sign Colon ∷ []) ++ (Name name ∷ [])))) ++ tokens_behind 0 line rest = joined line (codes " ")
+    (type_text ty ++ (codes ": " ++ name)) rest [] ((Name (type_text ty) ∷ []) ++ ((Sign Colon ∷ []) ++ (Name name ∷ [])))
+    (a_blank line ((type_text ty ++ (codes ": " ++ name)) ++ rest)) second in
+    joined line word (codes " " ++ (type_text ty ++ (codes ": " ++ name))) rest (Name word ∷ [])
+    ([] ++ ((Name (type_text ty) ∷ []) ++ ((Sign Colon ∷ []) ++ (Name name ∷ []))))
+    (a_name line word h ((codes " " ++ (type_text ty ++ (codes ": " ++ name))) ++ rest) refl) first
 
 -- the tokens of a param's line
 abbrev pub param_tokens : PlainParam → List Token
@@ -145,7 +165,10 @@ pub record IsParam (q : PlainParam) : Type 0 where
 
 param_lex : (q : PlainParam) → IsParam q → (line : ℕ) → Lexes line (param_line q) (param_tokens q)
 param_lex q h line =
-    λ rest s. joined line (headed (codes "param") q.ty q.name) (indexes_text q.sizes) rest (head_tokens (codes "param") q.ty q.name) (index_tokens q.sizes) (head_lex line (codes "param") q.ty q.name refl h.ty h.name (indexes_text q.sizes ++ rest) (indexes_part q.sizes rest s)) (indexes_lex line q.sizes h.sizes rest)
+    λ rest s. joined line (headed (codes "param") q.ty q.name) (indexes_text q.sizes) rest (head_tokens (codes "param") q.ty q.name)
+    (index_tokens q.sizes)
+    (head_lex line (codes "param") q.ty q.name refl h.ty h.name (indexes_text q.sizes ++ rest) (indexes_part q.sizes rest s))
+    (indexes_lex line q.sizes h.sizes rest)
 
 abbrev pub AreParams : List PlainParam → Type 0
 AreParams [] = Unit {0}
@@ -190,11 +213,17 @@ IsBody p (Some f) = IsWritable p f
 
 body_lex : (p : PlainProgram) (o : Option Formula) (line : ℕ) → IsBody p o → Lexes line (body_text p o) (body_tokens p o)
 body_lex p None line h =
-    always_lexes line (tile_text p) (listed_tokens (tile_tokens p.extents)) (listed_lex line (map decimal p.extents ++ codes "*" ∷ []) (tile_tokens p.extents) (tile_lex line p.extents h))
+    always_lexes line (tile_text p) (listed_tokens (tile_tokens p.extents))
+    (listed_lex line (map decimal p.extents ++ codes "*" ∷ []) (tile_tokens p.extents) (tile_lex line p.extents h))
 body_lex p (Some f) line h =
-    mark_then line (left_text p) (codes " = " ++ formula_text p f) (listed_tokens (left_tokens p.extents)) ((Sign EqualSign ∷ []) ++ formula_tokens p f) (listed_lex line (map (λ n. codes "0") p.extents ++ codes "0" ∷ []) (left_tokens p.extents) (left_lex line p.extents)) (mark_then line (codes " = ") (formula_text p f) (Sign EqualSign ∷ []) (formula_tokens p f) (an_equal line) (formula_lex p line f h))
+    mark_then line (left_text p) (codes " = " ++ formula_text p f) (listed_tokens (left_tokens p.extents))
+    ((Sign EqualSign ∷ []) ++ formula_tokens p f)
+    (listed_lex line (map (λ n. codes "0") p.extents ++ codes "0" ∷ []) (left_tokens p.extents) (left_lex line p.extents))
+    (mark_then line (codes " = ") (formula_text p f) (Sign EqualSign ∷ []) (formula_tokens p f) (an_equal line) (formula_lex p line f h))
 
-body_part : (p : PlainProgram) (o : Option Formula) (rest : List ℕ) → (Stops (body_text p o ++ rest)) × (body_text p o ≡ elim o as (λ v. List ℕ) [ None ↦ tile_text p | Some f ↦ left_text p ++ (codes " = " ++ formula_text p f) ])
+body_part : (p : PlainProgram) (o : Option Formula) (rest : List ℕ)
+    → (Stops (body_text p o ++ rest)) ×
+    (body_text p o ≡ elim o as (λ v. List ℕ) [ None ↦ tile_text p | Some f ↦ left_text p ++ (codes " = " ++ formula_text p f) ])
 body_part p None rest = (refl, refl)
 body_part p (Some f) rest = (refl, refl)
 
@@ -210,7 +239,10 @@ pub record IsTensor (p : PlainProgram) (t : PlainTensor) : Type 0 where
 
 tensor_lex : (p : PlainProgram) (t : PlainTensor) → IsTensor p t → (line : ℕ) → Lexes line (tensor_line p t) (tensor_tokens p t)
 tensor_lex p t h line =
-    let own : Lexes line (headed (role_word t.role) t.ty t.name ++ body_text p t.formula) (tensor_tokens p t) = λ rest s. joined line (headed (role_word t.role) t.ty t.name) (body_text p t.formula) rest (head_tokens (role_word t.role) t.ty t.name) (body_tokens p t.formula) (head_lex line (role_word t.role) t.ty t.name (role_named t.role) h.ty h.name (body_text p t.formula ++ rest) (body_part p t.formula rest).0) (body_lex p t.formula line h.body rest s) in
+    let own : Lexes line (headed (role_word t.role) t.ty t.name ++ body_text p t.formula) (tensor_tokens p t) = λ rest s. joined line
+    (headed (role_word t.role) t.ty t.name) (body_text p t.formula) rest (head_tokens (role_word t.role) t.ty t.name) (body_tokens p t.formula)
+    (head_lex line (role_word t.role) t.ty t.name (role_named t.role) h.ty h.name (body_text p t.formula ++ rest) (body_part p t.formula rest).0)
+    (body_lex p t.formula line h.body rest s) in
     subst (λ (w : List ℕ). Lexes line (headed (role_word t.role) t.ty t.name ++ w) (tensor_tokens p t)) (body_part p t.formula []).1 own
 
 abbrev pub AreTensors : PlainProgram → List PlainTensor → Type 0
@@ -235,5 +267,9 @@ pub record IsReadBack (p : PlainProgram) : Type 0 where
 pub canonical_lex : (p : PlainProgram) → IsReadBack p → tokens_of (canonical p) ≡ placed_lines 1 (canonical_tokens p)
 unfolding canonical
 canonical_lex p h =
-    let rest : AllLexed (map param_line p.params ++ map (tensor_line p) p.tensors) (map param_tokens p.params ++ map (tensor_tokens p) p.tensors) = all_more (map param_line p.params) (map (tensor_line p) p.tensors) (map param_tokens p.params) (map (tensor_tokens p) p.tensors) (params_lex p.params h.params) (tensors_lex p p.tensors h.tensors) in
-    ended_lex 1 (canonical_lines p) (canonical_tokens p) (all_more (setting_lines p) (map param_line p.params ++ map (tensor_line p) p.tensors) (setting_tokens p) (map param_tokens p.params ++ map (tensor_tokens p) p.tensors) (settings_lex p h.settings) rest)
+    let rest : AllLexed (map param_line p.params ++ map (tensor_line p) p.tensors)
+    (map param_tokens p.params ++ map (tensor_tokens p) p.tensors) = all_more (map param_line p.params) (map (tensor_line p) p.tensors)
+    (map param_tokens p.params) (map (tensor_tokens p) p.tensors) (params_lex p.params h.params) (tensors_lex p p.tensors h.tensors) in
+    ended_lex 1 (canonical_lines p) (canonical_tokens p)
+    (all_more (setting_lines p) (map param_line p.params ++ map (tensor_line p) p.tensors) (setting_tokens p)
+    (map param_tokens p.params ++ map (tensor_tokens p) p.tensors) (settings_lex p h.settings) rest)

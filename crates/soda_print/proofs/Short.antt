@@ -51,19 +51,31 @@ offsets_short : (ds : List ℤ) → AreSmall ds → length (listed (map signed_d
 offsets_short [] h = omega arith
 offsets_short (d ∷ ds) h =
     let more : length (behind_commas (map signed_decimal ds)) ≤ 23 * length ds = commas_short ds h.1 in
-    omega (arith, length-append (signed_decimal d ++ behind_commas (map signed_decimal ds)) (codes ")"), length-append (signed_decimal d) (behind_commas (map signed_decimal ds)), component_short d h.0)
+    omega (
+      arith,
+      length-append (signed_decimal d ++ behind_commas (map signed_decimal ds)) (codes ")"),
+      length-append (signed_decimal d)
+          (behind_commas (map signed_decimal ds)),
+      component_short d h.0,
+    )
 
 indexes_short : (is : List ℕ) → AreWords is → length (indexes_text is) ≤ 22 * length is
 indexes_short [] h = omega arith
 indexes_short (i ∷ is) h =
     let few : length (decimal i) ≤ 20 = number_short i h.0 in
-    omega (arith, length-append (codes "[" ++ (decimal i ++ codes "]")) (indexes_text is), length-append (decimal i) (codes "]"), indexes_short is h.1)
+    omega (
+      arith,
+      length-append (codes "[" ++ (decimal i ++ codes "]")) (indexes_text is),
+      length-append (decimal i)
+          (codes "]"),
+      indexes_short is h.1,
+    )
 
 few_by : (z : Bool) (i j n : ℕ) → 2 ≤ n → length (if z then [] else i ∷ j ∷ []) ≤ n
 few_by true i j n h = omega arith
 few_by false i j n h = omega arith
 
-few_indexes : (ns : List ℕ) (i : ℕ) → length (indexes ns i) ≤ length ns
+pub few_indexes : (ns : List ℕ) (i : ℕ) → length (indexes ns i) ≤ length ns
 few_indexes [] i = omega arith
 few_indexes (n ∷ []) i = omega arith
 few_indexes (n ∷ m ∷ ns) i = few_by (m == 0) _ _ (length (n ∷ m ∷ ns)) (omega arith)
@@ -73,11 +85,22 @@ count_by r = elim r as (λ (x : Option PlainParam). ℕ) [ None ↦ 0 | Some q �
 
 value_short : (p : PlainProgram) (k i : ℕ) → IsValueThere p k i → length (value_text p k i) ≤ 64 * (1 + 3 * index_count p k)
 value_short p k i h =
-    let is : length (value_text p k i) ≡ length (h.param.name ++ indexes_text (indexes h.param.sizes i)) = ap (λ (w : List ℕ). length w) (value_is p k i h.param h.there) in
+    let is : length (value_text p k i) ≡ length (h.param.name ++ indexes_text (indexes h.param.sizes i)) = ap (λ (w : List ℕ). length w)
+    (value_is p k i h.param h.there) in
     let many : index_count p k ≡ length h.param.sizes = ap count_by h.there in
-    omega (arith, is, many, length-append h.param.name (indexes_text (indexes h.param.sizes i)), name_short h.param.name h.name, indexes_short (indexes h.param.sizes i) h.small, few_indexes h.param.sizes i)
+    omega (
+      arith,
+      is,
+      many,
+      length-append h.param.name (indexes_text (indexes h.param.sizes i)),
+      name_short h.param.name h.name,
+      indexes_short
+          (indexes h.param.sizes i) h.small,
+      few_indexes h.param.sizes i,
+    )
 
-pair_short : (z : Bool) (pairs : ℕ) (w : List ℕ) → (z ≡ false → 1 ≤ pairs) → length ((if z then [] else codes "(") ++ (w ++ (if z then [] else codes ")"))) ≤ 2 * pairs + length w
+pair_short : (z : Bool) (pairs : ℕ) (w : List ℕ) → (z ≡ false → 1 ≤ pairs)
+    → length ((if z then [] else codes "(") ++ (w ++ (if z then [] else codes ")"))) ≤ 2 * pairs + length w
 pair_short true pairs w h = omega (arith, length-append w [])
 pair_short false pairs w h = let one : 1 ≤ pairs = h refl in omega (arith, length-append w (codes ")"))
 
@@ -96,14 +119,30 @@ two_listed a b =
 
 three_listed : (a b c : List ℕ) → length (listed (a ∷ b ∷ c ∷ [])) ≡ 6 + length a + length b + length c
 three_listed a b c =
-    omega (arith, length-append (a ++ behind_commas (b ∷ c ∷ [])) (codes ")"), length-append a (behind_commas (b ∷ c ∷ [])), length-append b (behind_commas (c ∷ [])), length-append c [])
+    omega (
+      arith,
+      length-append (a ++ behind_commas (b ∷ c ∷ [])) (codes ")"),
+      length-append a (behind_commas (b ∷ c ∷ [])),
+      length-append b
+          (behind_commas (c ∷ [])),
+      length-append c [],
+    )
 
-between_short : (l r : ℕ) (word a b : List ℕ) → length word ≤ 2 → length (in_pairs l a ++ (codes " " ++ (word ++ (codes " " ++ in_pairs r b)))) ≤ 4 + (2 * l + length a) + (2 * r + length b)
+between_short : (l r : ℕ) (word a b : List ℕ) → length word ≤ 2
+    → length (in_pairs l a ++ (codes " " ++ (word ++ (codes " " ++ in_pairs r b)))) ≤ 4 + (2 * l + length a) + (2 * r + length b)
 between_short l r word a b h =
-    omega (arith, length-append (in_pairs l a) (codes " " ++ (word ++ (codes " " ++ in_pairs r b))), length-append word (codes " " ++ in_pairs r b), in_pairs_short l a, in_pairs_short r b)
+    omega (
+      arith,
+      length-append (in_pairs l a) (codes " " ++ (word ++ (codes " " ++ in_pairs r b))),
+      length-append word
+          (codes " " ++ in_pairs r b),
+      in_pairs_short l a,
+      in_pairs_short r b,
+    )
 
-binary_short : (p : PlainProgram) (op : BinOp) (f g : Formula) (v w : List ℕ) → length v ≤ 64 * token_count p f → length w ≤ 64 * token_count p g → length (binary_text op (left_pairs op f) (right_pairs op g) v w) ≤ 64 * token_count p (binary op f g)
-unfolding binary_text binary_word
+binary_short : (p : PlainProgram) (op : BinOp) (f g : Formula) (v w : List ℕ) → length v ≤ 64 * token_count p f → length w ≤ 64 * token_count p g
+    → length (binary_text op (left_pairs op f) (right_pairs op g) v w) ≤ 64 * token_count p (binary op f g)
+unfolding binary_text
 binary_short p LogOr f g v w h k = omega (arith, between_short (left_pairs LogOr f) (right_pairs LogOr g) (codes "||") v w (omega arith))
 binary_short p LogAnd f g v w h k = omega (arith, between_short (left_pairs LogAnd f) (right_pairs LogAnd g) (codes "&&") v w (omega arith))
 binary_short p BitOr f g v w h k = omega (arith, between_short (left_pairs BitOr f) (right_pairs BitOr g) (codes "|") v w (omega arith))
@@ -123,8 +162,9 @@ binary_short p Rem f g v w h k = omega (arith, between_short (left_pairs Rem f) 
 binary_short p Min f g v w h k = omega (arith, two_listed v w)
 binary_short p Max f g v w h k = omega (arith, two_listed v w)
 
-unary_short : (p : PlainProgram) (op : UnOp) (f : Formula) (v : List ℕ) → length v ≤ 64 * token_count p f → length (unary_text op (operand_pairs op f) v) ≤ 64 * token_count p (unary op f)
-unfolding unary_text unary_word
+unary_short : (p : PlainProgram) (op : UnOp) (f : Formula) (v : List ℕ) → length v ≤ 64 * token_count p f
+    → length (unary_text op (operand_pairs op f) v) ≤ 64 * token_count p (unary op f)
+unfolding unary_text
 unary_short p Plus f v h = omega (arith, in_pairs_short (operand_pairs Plus f) v)
 unary_short p Minus f v h = omega (arith, in_pairs_short (operand_pairs Minus f) v)
 unary_short p Flip f v h = omega (arith, in_pairs_short (operand_pairs Flip f) v)
@@ -141,14 +181,36 @@ formula_short p (unary op a) h = unary_short p op a (formula_text p a) (formula_
 formula_short p (binary op a b) h =
     binary_short p op a b (formula_text p a) (formula_text p b) (formula_short p a h.0) (formula_short p b h.1)
 formula_short p (choice c a b) h =
-    omega (arith, three_listed (formula_text p c) (formula_text p a) (formula_text p b), formula_short p c h.0, formula_short p a h.1, formula_short p b h.2)
+    omega (
+      arith,
+      three_listed (formula_text p c) (formula_text p a)
+          (formula_text p b),
+      formula_short p c h.0,
+      formula_short p a h.1,
+      formula_short p b h.2,
+    )
 formula_short p (cast t a) h =
-    omega (arith, length-append (type_text t) (listed (formula_text p a ∷ [])), one_listed (formula_text p a), name_short (type_text t) h.0, formula_short p a h.1)
+    omega (
+      arith,
+      length-append (type_text t) (listed (formula_text p a ∷ [])),
+      one_listed (formula_text p a),
+      name_short
+          (type_text t) h.0,
+      formula_short p a h.1,
+    )
 
 -- lines
-head_short : (word : List ℕ) (ty : IntType) (name : List ℕ) → length word ≤ 6 → is_name (type_text ty) ≡ true → is_name name ≡ true → length (headed word ty name) ≤ 137
+head_short : (word : List ℕ) (ty : IntType) (name : List ℕ) → length word ≤ 6 → is_name (type_text ty) ≡ true → is_name name ≡ true
+    → length (headed word ty name) ≤ 137
 head_short word ty name h k n =
-    omega (arith, length-append word (codes " " ++ (type_text ty ++ (codes ": " ++ name))), length-append (type_text ty) (codes ": " ++ name), name_short (type_text ty) k, name_short name n)
+    omega (
+      arith,
+      length-append word (codes " " ++ (type_text ty ++ (codes ": " ++ name))),
+      length-append (type_text ty)
+          (codes ": " ++ name),
+      name_short (type_text ty) k,
+      name_short name n,
+    )
 
 tile_commas : (ns : List ℕ) → AreWords ns → length (behind_commas (map decimal ns ++ codes "*" ∷ [])) ≤ 3 + 22 * length ns
 tile_commas [] h = omega arith
@@ -181,10 +243,12 @@ left_short p few =
 abbrev small_by : PlainProgram → Option Formula → Bool
 small_by p o = elim o as (λ v. Bool) [ None ↦ true | Some f ↦ nat_le (token_count p f) 1500 && nat_le (most_open p f) 64 ]
 
-body_short : (p : PlainProgram) (o : Option Formula) → IsBody p o → length p.extents ≤ 3 → small_by p o ≡ true → length (elim o as (λ v. List ℕ) [ None ↦ tile_text p | Some f ↦ left_text p ++ (codes " = " ++ formula_text p f) ]) ≤ 96017
+body_short : (p : PlainProgram) (o : Option Formula) → IsBody p o → length p.extents ≤ 3 → small_by p o ≡ true
+    → length (elim o as (λ v. List ℕ) [ None ↦ tile_text p | Some f ↦ left_text p ++ (codes " = " ++ formula_text p f) ]) ≤ 96017
 body_short p None h few s = omega (arith, tile_short p h few)
 body_short p (Some f) h few s =
-    let tokens : token_count p f ≤ 1500 = leb-true (token_count p f) 1500 ((and_parts (nat_le (token_count p f) 1500) (nat_le (most_open p f) 64) s).0) in
+    let tokens : token_count p f ≤ 1500 = leb-true (token_count p f) 1500
+    ((and_parts (nat_le (token_count p f) 1500) (nat_le (most_open p f) 64) s).0) in
     omega (arith, length-append (left_text p) (codes " = " ++ formula_text p f), left_short p few, formula_short p f h)
 
 role_short : (r : Role) → length (role_word r) ≤ 6
@@ -200,13 +264,23 @@ ended_two : (vs ws : List (List ℕ)) → length (ended (vs ++ ws)) ≡ length (
 ended_two [] ws = omega arith
 ended_two (v ∷ vs) ws = omega (arith, ended_one v (vs ++ ws), ended_one v vs, ended_two vs ws)
 
-tensors_short : (p : PlainProgram) (ts : List PlainTensor) → AreTensors p ts → length p.extents ≤ 3 → list_all (is_small p) ts ≡ true → length (ended (map (tensor_line p) ts)) ≤ 96155 * length ts
+tensors_short : (p : PlainProgram) (ts : List PlainTensor) → AreTensors p ts → length p.extents ≤ 3 → list_all (is_small p) ts ≡ true
+    → length (ended (map (tensor_line p) ts)) ≤ 96155 * length ts
 tensors_short p [] h few s = omega arith
 tensors_short p (t ∷ ts) h few s =
     let head : length (headed (role_word t.role) t.ty t.name) ≤ 137 = head_short (role_word t.role) t.ty t.name (role_short t.role) h.0.ty h.0.name in
     let body = body_short p t.formula h.0.body few ((and_parts (is_small p t) (list_all (is_small p) ts) s).0) in
-    let line : length (tensor_line p t) ≤ 96154 = omega (arith, length-append (headed (role_word t.role) t.ty t.name) (elim t.formula as (λ v. List ℕ) [ None ↦ tile_text p | Some f ↦ left_text p ++ (codes " = " ++ formula_text p f) ])) in
-    omega (arith, ended_one (tensor_line p t) (map (tensor_line p) ts), tensors_short p ts h.1 few ((and_parts (is_small p t) (list_all (is_small p) ts) s).1))
+    let line : length (tensor_line p t) ≤ 96154 = omega (
+      arith,
+      length-append (headed (role_word t.role) t.ty t.name)
+          (elim t.formula as (λ v. List ℕ) [ None ↦ tile_text p | Some f ↦ left_text p ++ (codes " = " ++ formula_text p f) ]),
+    ) in
+    omega (
+      arith,
+      ended_one (tensor_line p t) (map (tensor_line p) ts),
+      tensors_short p ts h.1 few
+          ((and_parts (is_small p t) (list_all (is_small p) ts) s).1),
+    )
 
 abbrev nonzero : ℕ → Bool
 nonzero n = not (n == 0)
@@ -217,7 +291,8 @@ params_short (q ∷ qs) h g =
     let good : is_good_param q ≡ true = (and_parts (is_good_param q) (list_all is_good_param qs) g).0 in
     let two : length q.sizes ≤ 2 = leb-true (length q.sizes) 2 ((and_parts (nat_le (length q.sizes) 2) (list_all nonzero q.sizes) good).0) in
     let head : length (headed (codes "param") q.ty q.name) ≤ 137 = head_short (codes "param") q.ty q.name (omega arith) h.0.ty h.0.name in
-    let line : length (param_line q) ≤ 181 = omega (arith, length-append (headed (codes "param") q.ty q.name) (indexes_text q.sizes), indexes_short q.sizes h.0.sizes) in
+    let line : length (param_line q) ≤ 181 = omega
+    (arith, length-append (headed (codes "param") q.ty q.name) (indexes_text q.sizes), indexes_short q.sizes h.0.sizes) in
     omega (arith, ended_one (param_line q) (map param_line qs), params_short qs h.1 ((and_parts (is_good_param q) (list_all is_good_param qs) g).1))
 
 -- there are no more params than values of them
@@ -241,7 +316,21 @@ settings_short p h =
     let unroll : List ℕ = codes "unroll factor: " ++ decimal p.unroll in
     let iterate : List ℕ = codes "iterate: " ++ decimal p.iterate in
     let border : List ℕ = codes "border: " ++ border_word p.border in
-    omega (arith, ended_one kernel (burst ∷ unroll ∷ iterate ∷ border ∷ []), ended_one burst (unroll ∷ iterate ∷ border ∷ []), ended_one unroll (iterate ∷ border ∷ []), ended_one iterate (border ∷ []), ended_one border [], name_short p.kernel h.kernel, number_short p.burst h.burst, number_short p.unroll h.unroll, number_short p.iterate h.iterate, border_short p.border)
+    omega (
+      arith,
+      ended_one kernel (burst ∷ unroll ∷ iterate ∷ border ∷ []),
+      ended_one burst (unroll ∷ iterate ∷ border ∷ []),
+      ended_one unroll
+          (iterate ∷ border ∷ []),
+      ended_one iterate
+          (border ∷ []),
+      ended_one border [],
+      name_short p.kernel h.kernel,
+      number_short p.burst h.burst,
+      number_short p.unroll h.unroll,
+      number_short p.iterate h.iterate,
+      border_short p.border,
+    )
 
 -- the canonical text has at most 67,108,864 bytes
 pub canonical_short : (p : PlainProgram) → IsValid p → IsSizedProgram p → length (canonical p) ≤ 67108864
@@ -249,7 +338,15 @@ unfolding canonical
 canonical_short p v s =
     let h : IsReadBack p = readable p v s in
     let few : length p.extents ≤ 3 = omega (arith, v.sound.limits.few_dims) in
-    let tensors : length (ended (map (tensor_line p) p.tensors)) ≤ 96155 * length p.tensors = tensors_short p p.tensors h.tensors few v.sound.parts.small in
+    let tensors : length
+    (ended (map (tensor_line p) p.tensors)) ≤ 96155 * length p.tensors = tensors_short p p.tensors h.tensors few v.sound.parts.small in
     let params : length (ended (map param_line p.params)) ≤ 182 * length p.params = params_short p.params h.params v.sound.parts.params in
     let many : length p.params ≤ 65536 = omega (arith, params_few p.params v.sound.parts.params, v.sound.limits.few_values) in
-    omega (arith, ended_two (setting_lines p) (map param_line p.params ++ map (tensor_line p) p.tensors), ended_two (map param_line p.params) (map (tensor_line p) p.tensors), settings_short p h.settings, v.sound.limits.few_tensors)
+    omega (
+      arith,
+      ended_two (setting_lines p) (map param_line p.params ++ map (tensor_line p) p.tensors),
+      ended_two (map param_line p.params)
+          (map (tensor_line p) p.tensors),
+      settings_short p h.settings,
+      v.sound.limits.few_tensors,
+    )

@@ -35,7 +35,10 @@ map-append : {A B : Type 0} (f : A → B) (xs ys : List A) → map f (xs ++ ys) 
 map-append f [] ys = refl
 map-append f (x ∷ xs) ys = ap (λ zs. f x ∷ zs) (map-append f xs ys)
 
-pub joined : (line : ℕ) (v w rest : List ℕ) (ts us : List Token) → tokens_behind 0 line (v ++ (w ++ rest)) ≡ map (on_line line) ts ++ tokens_behind 0 line (w ++ rest) → tokens_behind 0 line (w ++ rest) ≡ map (on_line line) us ++ tokens_behind 0 line rest → tokens_behind 0 line ((v ++ w) ++ rest) ≡ map (on_line line) (ts ++ us) ++ tokens_behind 0 line rest
+pub joined : (line : ℕ) (v w rest : List ℕ) (ts us : List Token)
+    → tokens_behind 0 line (v ++ (w ++ rest)) ≡ map (on_line line) ts ++ tokens_behind 0 line (w ++ rest)
+    → tokens_behind 0 line (w ++ rest) ≡ map (on_line line) us ++ tokens_behind 0 line rest
+    → tokens_behind 0 line ((v ++ w) ++ rest) ≡ map (on_line line) (ts ++ us) ++ tokens_behind 0 line rest
 joined line v w rest ts us h k =
     ap (λ (bs : List ℕ). tokens_behind 0 line bs) (append_assoc v w rest) ∙ h
     ∙ ap (λ (ps : List Placed). map (on_line line) ts ++ ps) k
@@ -97,20 +100,23 @@ commas_part : (ws : List (List ℕ)) (rest : List ℕ) → Stops rest → Stops 
 commas_part [] rest s = s
 commas_part (w ∷ ws) rest s = refl
 
-behind_commas_lex : (line : ℕ) (ws : List (List ℕ)) (tss : List (List Token)) → AllLex line ws tss → Lexes line (behind_commas ws) (behind_comma_tokens tss)
+behind_commas_lex : (line : ℕ) (ws : List (List ℕ)) (tss : List (List Token)) → AllLex line ws tss
+    → Lexes line (behind_commas ws) (behind_comma_tokens tss)
 behind_commas_lex line [] [] h rest s = refl
 behind_commas_lex line [] (ts ∷ tss) h rest s = absurd h
 behind_commas_lex line (w ∷ ws) [] h rest s = absurd h
 behind_commas_lex line (w ∷ ws) (ts ∷ tss) h rest s =
     let here : Lexes line (codes ", " ++ w) (Sign Comma ∷ ts) = mark_then line (codes ", ") w (Sign Comma ∷ []) ts (a_comma line) h.0 in
-    joined line (codes ", " ++ w) (behind_commas ws) rest (Sign Comma ∷ ts) (behind_comma_tokens tss) (here (behind_commas ws ++ rest) (commas_part ws rest s)) (behind_commas_lex line ws tss h.1 rest s)
+    joined line (codes ", " ++ w) (behind_commas ws) rest (Sign Comma ∷ ts) (behind_comma_tokens tss)
+    (here (behind_commas ws ++ rest) (commas_part ws rest s)) (behind_commas_lex line ws tss h.1 rest s)
 
 parted_lex : (line : ℕ) (ws : List (List ℕ)) (tss : List (List Token)) → AllLex line ws tss → Lexes line (parted ws) (parted_tokens tss)
 parted_lex line [] [] h rest s = refl
 parted_lex line [] (ts ∷ tss) h rest s = absurd h
 parted_lex line (w ∷ ws) [] h rest s = absurd h
 parted_lex line (w ∷ ws) (ts ∷ tss) h rest s =
-    joined line w (behind_commas ws) rest ts (behind_comma_tokens tss) (h.0 (behind_commas ws ++ rest) (commas_part ws rest s)) (behind_commas_lex line ws tss h.1 rest s)
+    joined line w (behind_commas ws) rest ts (behind_comma_tokens tss) (h.0 (behind_commas ws ++ rest) (commas_part ws rest s))
+    (behind_commas_lex line ws tss h.1 rest s)
 
 -- a list in round brackets
 pub listed_lex : (line : ℕ) (ws : List (List ℕ)) (tss : List (List Token)) → AllLex line ws tss → Always line (listed ws) (listed_tokens tss)
@@ -142,19 +148,25 @@ components_lex line (d ∷ ds) h = (component_lex line d h.0, components_lex lin
 abbrev pub call_tokens : List ℕ → List (List Token) → List Token
 call_tokens w tss = (Name w ∷ []) ++ listed_tokens tss
 
-pub call_lex : (line : ℕ) (w : List ℕ) (ws : List (List ℕ)) (tss : List (List Token)) → is_name w ≡ true → AllLex line ws tss → Lexes line (w ++ listed ws) (call_tokens w tss)
+pub call_lex : (line : ℕ) (w : List ℕ) (ws : List (List ℕ)) (tss : List (List Token)) → is_name w ≡ true → AllLex line ws tss
+    → Lexes line (w ++ listed ws) (call_tokens w tss)
 call_lex line w ws tss n h =
-    always_lexes line (w ++ listed ws) (call_tokens w tss) (then_mark line w (listed ws) (Name w ∷ []) (listed_tokens tss) (a_name line w n) (listed_lex line ws tss h) (λ rest. refl))
+    always_lexes line (w ++ listed ws) (call_tokens w tss)
+    (then_mark line w (listed ws) (Name w ∷ []) (listed_tokens tss) (a_name line w n) (listed_lex line ws tss h) (λ rest. refl))
 
 -- the tokens of a pair of brackets, if there is one
 abbrev pub pair_tokens : ℕ → List Token → List Token
 pair_tokens pairs ts =
     (if pairs == 0 then [] else Sign OpenRound ∷ []) ++ (ts ++ (if pairs == 0 then [] else Sign CloseRound ∷ []))
 
-pair_lex : (none : Bool) (line : ℕ) (w : List ℕ) (ts : List Token) → Lexes line w ts → Lexes line ((if none then [] else codes "(") ++ (w ++ (if none then [] else codes ")"))) ((if none then [] else Sign OpenRound ∷ []) ++ (ts ++ (if none then [] else Sign CloseRound ∷ [])))
+pair_lex : (none : Bool) (line : ℕ) (w : List ℕ) (ts : List Token) → Lexes line w ts
+    → Lexes line ((if none then [] else codes "(") ++ (w ++ (if none then [] else codes ")")))
+    ((if none then [] else Sign OpenRound ∷ []) ++ (ts ++ (if none then [] else Sign CloseRound ∷ [])))
 pair_lex true line w ts h = rw (append-nil w, append-nil ts) h
 pair_lex false line w ts h =
-    always_lexes line (codes "(" ++ (w ++ codes ")")) ((Sign OpenRound ∷ []) ++ (ts ++ (Sign CloseRound ∷ []))) (mark_mark line (codes "(") (w ++ codes ")") (Sign OpenRound ∷ []) (ts ++ (Sign CloseRound ∷ [])) (an_open line) (then_mark line w (codes ")") ts (Sign CloseRound ∷ []) h (a_close line) (λ rest. refl)))
+    always_lexes line (codes "(" ++ (w ++ codes ")")) ((Sign OpenRound ∷ []) ++ (ts ++ (Sign CloseRound ∷ [])))
+    (mark_mark line (codes "(") (w ++ codes ")") (Sign OpenRound ∷ []) (ts ++ (Sign CloseRound ∷ [])) (an_open line)
+    (then_mark line w (codes ")") ts (Sign CloseRound ∷ []) h (a_close line) (λ rest. refl)))
 
 pub in_pairs_lex : (line pairs : ℕ) (w : List ℕ) (ts : List Token) → Lexes line w ts → Lexes line (in_pairs pairs w) (pair_tokens pairs ts)
 in_pairs_lex line pairs w ts h = pair_lex (pairs == 0) line w ts h
@@ -180,8 +192,9 @@ infix_token Rem = Sign Percent
 infix_token Min = Name (codes "min")
 infix_token Max = Name (codes "max")
 
-between : (line : ℕ) (op : BinOp) (rest : List ℕ) → tokens_behind 0 line (codes " " ++ (binary_word op ++ (codes " " ++ rest))) ≡ on_line line (infix_token op) ∷ tokens_behind 0 line rest
-unfolding tokens_behind front_of binary_word
+between : (line : ℕ) (op : BinOp) (rest : List ℕ)
+    → tokens_behind 0 line (codes " " ++ (binary_word op ++ (codes " " ++ rest))) ≡ on_line line (infix_token op) ∷ tokens_behind 0 line rest
+unfolding tokens_behind front_of
 between line LogOr rest = refl
 between line LogAnd rest = refl
 between line BitOr rest = refl
@@ -202,11 +215,15 @@ between line Min rest = refl
 between line Max rest = refl
 
 -- an operator between its operands
-infix_lex : (line : ℕ) (op : BinOp) (v w : List ℕ) (ts us : List Token) → Lexes line v ts → Lexes line w us → Lexes line (v ++ (codes " " ++ (binary_word op ++ (codes " " ++ w)))) (ts ++ (infix_token op ∷ us))
+infix_lex : (line : ℕ) (op : BinOp) (v w : List ℕ) (ts us : List Token) → Lexes line v ts → Lexes line w us
+    → Lexes line (v ++ (codes " " ++ (binary_word op ++ (codes " " ++ w)))) (ts ++ (infix_token op ∷ us))
 infix_lex line op v w ts us h k rest s =
     let tail : List ℕ = codes " " ++ (binary_word op ++ (codes " " ++ w)) in
-    let same : tail ++ rest ≡ codes " " ++ (binary_word op ++ (codes " " ++ (w ++ rest))) = ap (λ (bs : List ℕ). 32 ∷ bs) (append_assoc (binary_word op) (codes " " ++ w) rest) in
-    let there : tokens_behind 0 line (tail ++ rest) ≡ map (on_line line) (infix_token op ∷ us) ++ tokens_behind 0 line rest = ap (λ (bs : List ℕ). tokens_behind 0 line bs) same ∙ between line op (w ++ rest) ∙ ap (λ (ps : List Placed). on_line line (infix_token op) ∷ ps) (k rest s) in
+    let same : tail ++ rest ≡ codes " " ++ (binary_word op ++ (codes " " ++ (w ++ rest))) = ap (λ (bs : List ℕ). 32 ∷ bs)
+    (append_assoc (binary_word op) (codes " " ++ w) rest) in
+    let there : tokens_behind 0 line (tail ++ rest) ≡ map (on_line line) (infix_token op ∷ us) ++ tokens_behind 0 line rest = ap
+    (λ (bs : List ℕ). tokens_behind 0 line bs) same ∙ between line op (w ++ rest)
+    ∙ ap (λ (ps : List Placed). on_line line (infix_token op) ∷ ps) (k rest s) in
     joined line v tail rest ts (infix_token op ∷ us) (h (tail ++ rest) refl) there
 
 -- the tokens of an operator of two operands
@@ -230,24 +247,41 @@ binary_tokens Rem left right ts us = pair_tokens left ts ++ (infix_token Rem ∷
 binary_tokens Min left right ts us = call_tokens (codes "min") (ts ∷ us ∷ [])
 binary_tokens Max left right ts us = call_tokens (codes "max") (ts ∷ us ∷ [])
 
-binary_lex : (line : ℕ) (op : BinOp) (left right : ℕ) (v w : List ℕ) (ts us : List Token) → Lexes line v ts → Lexes line w us → Lexes line (binary_text op left right v w) (binary_tokens op left right ts us)
-unfolding binary_text binary_word
-binary_lex line LogOr left right v w ts us h k = infix_lex line LogOr (in_pairs left v) (in_pairs right w) (pair_tokens left ts) (pair_tokens right us) (in_pairs_lex line left v ts h) (in_pairs_lex line right w us k)
-binary_lex line LogAnd left right v w ts us h k = infix_lex line LogAnd (in_pairs left v) (in_pairs right w) (pair_tokens left ts) (pair_tokens right us) (in_pairs_lex line left v ts h) (in_pairs_lex line right w us k)
-binary_lex line BitOr left right v w ts us h k = infix_lex line BitOr (in_pairs left v) (in_pairs right w) (pair_tokens left ts) (pair_tokens right us) (in_pairs_lex line left v ts h) (in_pairs_lex line right w us k)
-binary_lex line BitXor left right v w ts us h k = infix_lex line BitXor (in_pairs left v) (in_pairs right w) (pair_tokens left ts) (pair_tokens right us) (in_pairs_lex line left v ts h) (in_pairs_lex line right w us k)
-binary_lex line BitAnd left right v w ts us h k = infix_lex line BitAnd (in_pairs left v) (in_pairs right w) (pair_tokens left ts) (pair_tokens right us) (in_pairs_lex line left v ts h) (in_pairs_lex line right w us k)
-binary_lex line Eq left right v w ts us h k = infix_lex line Eq (in_pairs left v) (in_pairs right w) (pair_tokens left ts) (pair_tokens right us) (in_pairs_lex line left v ts h) (in_pairs_lex line right w us k)
-binary_lex line Ne left right v w ts us h k = infix_lex line Ne (in_pairs left v) (in_pairs right w) (pair_tokens left ts) (pair_tokens right us) (in_pairs_lex line left v ts h) (in_pairs_lex line right w us k)
-binary_lex line Lt left right v w ts us h k = infix_lex line Lt (in_pairs left v) (in_pairs right w) (pair_tokens left ts) (pair_tokens right us) (in_pairs_lex line left v ts h) (in_pairs_lex line right w us k)
-binary_lex line Le left right v w ts us h k = infix_lex line Le (in_pairs left v) (in_pairs right w) (pair_tokens left ts) (pair_tokens right us) (in_pairs_lex line left v ts h) (in_pairs_lex line right w us k)
-binary_lex line Gt left right v w ts us h k = infix_lex line Gt (in_pairs left v) (in_pairs right w) (pair_tokens left ts) (pair_tokens right us) (in_pairs_lex line left v ts h) (in_pairs_lex line right w us k)
-binary_lex line Ge left right v w ts us h k = infix_lex line Ge (in_pairs left v) (in_pairs right w) (pair_tokens left ts) (pair_tokens right us) (in_pairs_lex line left v ts h) (in_pairs_lex line right w us k)
-binary_lex line Add left right v w ts us h k = infix_lex line Add (in_pairs left v) (in_pairs right w) (pair_tokens left ts) (pair_tokens right us) (in_pairs_lex line left v ts h) (in_pairs_lex line right w us k)
-binary_lex line Sub left right v w ts us h k = infix_lex line Sub (in_pairs left v) (in_pairs right w) (pair_tokens left ts) (pair_tokens right us) (in_pairs_lex line left v ts h) (in_pairs_lex line right w us k)
-binary_lex line Mul left right v w ts us h k = infix_lex line Mul (in_pairs left v) (in_pairs right w) (pair_tokens left ts) (pair_tokens right us) (in_pairs_lex line left v ts h) (in_pairs_lex line right w us k)
-binary_lex line Div left right v w ts us h k = infix_lex line Div (in_pairs left v) (in_pairs right w) (pair_tokens left ts) (pair_tokens right us) (in_pairs_lex line left v ts h) (in_pairs_lex line right w us k)
-binary_lex line Rem left right v w ts us h k = infix_lex line Rem (in_pairs left v) (in_pairs right w) (pair_tokens left ts) (pair_tokens right us) (in_pairs_lex line left v ts h) (in_pairs_lex line right w us k)
+binary_lex : (line : ℕ) (op : BinOp) (left right : ℕ) (v w : List ℕ) (ts us : List Token) → Lexes line v ts → Lexes line w us
+    → Lexes line (binary_text op left right v w) (binary_tokens op left right ts us)
+unfolding binary_text
+binary_lex line LogOr left right v w ts us h k = infix_lex line LogOr (in_pairs left v) (in_pairs right w) (pair_tokens left ts)
+    (pair_tokens right us) (in_pairs_lex line left v ts h) (in_pairs_lex line right w us k)
+binary_lex line LogAnd left right v w ts us h k = infix_lex line LogAnd (in_pairs left v) (in_pairs right w) (pair_tokens left ts)
+    (pair_tokens right us) (in_pairs_lex line left v ts h) (in_pairs_lex line right w us k)
+binary_lex line BitOr left right v w ts us h k = infix_lex line BitOr (in_pairs left v) (in_pairs right w) (pair_tokens left ts)
+    (pair_tokens right us) (in_pairs_lex line left v ts h) (in_pairs_lex line right w us k)
+binary_lex line BitXor left right v w ts us h k = infix_lex line BitXor (in_pairs left v) (in_pairs right w) (pair_tokens left ts)
+    (pair_tokens right us) (in_pairs_lex line left v ts h) (in_pairs_lex line right w us k)
+binary_lex line BitAnd left right v w ts us h k = infix_lex line BitAnd (in_pairs left v) (in_pairs right w) (pair_tokens left ts)
+    (pair_tokens right us) (in_pairs_lex line left v ts h) (in_pairs_lex line right w us k)
+binary_lex line Eq left right v w ts us h k = infix_lex line Eq (in_pairs left v) (in_pairs right w) (pair_tokens left ts) (pair_tokens right us)
+    (in_pairs_lex line left v ts h) (in_pairs_lex line right w us k)
+binary_lex line Ne left right v w ts us h k = infix_lex line Ne (in_pairs left v) (in_pairs right w) (pair_tokens left ts) (pair_tokens right us)
+    (in_pairs_lex line left v ts h) (in_pairs_lex line right w us k)
+binary_lex line Lt left right v w ts us h k = infix_lex line Lt (in_pairs left v) (in_pairs right w) (pair_tokens left ts) (pair_tokens right us)
+    (in_pairs_lex line left v ts h) (in_pairs_lex line right w us k)
+binary_lex line Le left right v w ts us h k = infix_lex line Le (in_pairs left v) (in_pairs right w) (pair_tokens left ts) (pair_tokens right us)
+    (in_pairs_lex line left v ts h) (in_pairs_lex line right w us k)
+binary_lex line Gt left right v w ts us h k = infix_lex line Gt (in_pairs left v) (in_pairs right w) (pair_tokens left ts) (pair_tokens right us)
+    (in_pairs_lex line left v ts h) (in_pairs_lex line right w us k)
+binary_lex line Ge left right v w ts us h k = infix_lex line Ge (in_pairs left v) (in_pairs right w) (pair_tokens left ts) (pair_tokens right us)
+    (in_pairs_lex line left v ts h) (in_pairs_lex line right w us k)
+binary_lex line Add left right v w ts us h k = infix_lex line Add (in_pairs left v) (in_pairs right w) (pair_tokens left ts) (pair_tokens right us)
+    (in_pairs_lex line left v ts h) (in_pairs_lex line right w us k)
+binary_lex line Sub left right v w ts us h k = infix_lex line Sub (in_pairs left v) (in_pairs right w) (pair_tokens left ts) (pair_tokens right us)
+    (in_pairs_lex line left v ts h) (in_pairs_lex line right w us k)
+binary_lex line Mul left right v w ts us h k = infix_lex line Mul (in_pairs left v) (in_pairs right w) (pair_tokens left ts) (pair_tokens right us)
+    (in_pairs_lex line left v ts h) (in_pairs_lex line right w us k)
+binary_lex line Div left right v w ts us h k = infix_lex line Div (in_pairs left v) (in_pairs right w) (pair_tokens left ts) (pair_tokens right us)
+    (in_pairs_lex line left v ts h) (in_pairs_lex line right w us k)
+binary_lex line Rem left right v w ts us h k = infix_lex line Rem (in_pairs left v) (in_pairs right w) (pair_tokens left ts) (pair_tokens right us)
+    (in_pairs_lex line left v ts h) (in_pairs_lex line right w us k)
 binary_lex line Min left right v w ts us h k = call_lex line (codes "min") (v ∷ w ∷ []) (ts ∷ us ∷ []) refl (h, (k, tt))
 binary_lex line Max left right v w ts us h k = call_lex line (codes "max") (v ∷ w ∷ []) (ts ∷ us ∷ []) refl (h, (k, tt))
 
@@ -270,21 +304,25 @@ pair_begins false w h = refl
 in_pairs_begin : (pairs : ℕ) (w : List ℕ) → BeginsOther w → BeginsOther (in_pairs pairs w)
 in_pairs_begin pairs w h = pair_begins (pairs == 0) w h
 
-bang_before : (line : ℕ) (w rest : List ℕ) → BeginsOther w → tokens_behind 0 line (33 ∷ (w ++ rest)) ≡ on_line line (Sign Bang) ∷ tokens_behind 0 line (w ++ rest)
+bang_before : (line : ℕ) (w rest : List ℕ) → BeginsOther w
+    → tokens_behind 0 line (33 ∷ (w ++ rest)) ≡ on_line line (Sign Bang) ∷ tokens_behind 0 line (w ++ rest)
 bang_before line [] rest h = absurd h
 bang_before line (b ∷ bs) rest h = bang_first b (bs ++ rest) line h
 
-sign_lex : (line : ℕ) (t : Token) (w : List ℕ) (pairs : ℕ) (ts : List Token) (b : ℕ) → Lexes line w ts → ((rest : List ℕ) → tokens_behind 0 line (b ∷ (in_pairs pairs w ++ rest)) ≡ on_line line t ∷ tokens_behind 0 line (in_pairs pairs w ++ rest))
+sign_lex : (line : ℕ) (t : Token) (w : List ℕ) (pairs : ℕ) (ts : List Token) (b : ℕ) → Lexes line w ts
+    → ((rest : List ℕ) → tokens_behind 0 line (b ∷ (in_pairs pairs w ++ rest)) ≡ on_line line t ∷ tokens_behind 0 line (in_pairs pairs w ++ rest))
     → Lexes line (b ∷ in_pairs pairs w) (t ∷ pair_tokens pairs ts)
 sign_lex line t w pairs ts b h lead =
     λ rest s. lead rest ∙ ap (λ (ps : List Placed). on_line line t ∷ ps) (in_pairs_lex line pairs w ts h rest s)
 
-unary_lex : (line : ℕ) (op : UnOp) (pairs : ℕ) (w : List ℕ) (ts : List Token) → BeginsOther w → Lexes line w ts → Lexes line (unary_text op pairs w) (unary_tokens op pairs ts)
-unfolding unary_text unary_word
+unary_lex : (line : ℕ) (op : UnOp) (pairs : ℕ) (w : List ℕ) (ts : List Token) → BeginsOther w → Lexes line w ts
+    → Lexes line (unary_text op pairs w) (unary_tokens op pairs ts)
+unfolding unary_text
 unary_lex line Plus pairs w ts n h = sign_lex line (Sign PlusSign) w pairs ts 43 h (λ rest. plus_first (in_pairs pairs w ++ rest) line)
 unary_lex line Minus pairs w ts n h = sign_lex line (Sign MinusSign) w pairs ts 45 h (λ rest. minus_first (in_pairs pairs w ++ rest) line)
 unary_lex line Flip pairs w ts n h = sign_lex line (Sign Tilde) w pairs ts 126 h (λ rest. tilde_first (in_pairs pairs w ++ rest) line)
-unary_lex line Not pairs w ts n h = sign_lex line (Sign Bang) w pairs ts 33 h (λ rest. bang_before line (in_pairs pairs w) rest (in_pairs_begin pairs w n))
+unary_lex line Not pairs w ts n h = sign_lex line (Sign Bang) w pairs ts 33 h
+    (λ rest. bang_before line (in_pairs pairs w) rest (in_pairs_begin pairs w n))
 unary_lex line Abs pairs w ts n h = call_lex line (codes "abs") (w ∷ []) (ts ∷ []) refl (h, tt)
 
 -- the tokens of indexes
@@ -299,12 +337,15 @@ AreWords (i ∷ is) = (i < 2 ^ 64) × AreWords is
 
 index_lex : (line i : ℕ) → i < 2 ^ 64 → Always line (codes "[" ++ (decimal i ++ codes "]")) (Sign OpenSquare ∷ Number i ∷ Sign CloseSquare ∷ [])
 index_lex line i h =
-    mark_mark line (codes "[") (decimal i ++ codes "]") (Sign OpenSquare ∷ []) (Number i ∷ Sign CloseSquare ∷ []) (λ rest. open_square_first rest line) (then_mark line (decimal i) (codes "]") (Number i ∷ []) (Sign CloseSquare ∷ []) (a_number line i h) (λ rest. close_square_first rest line) (λ rest. refl))
+    mark_mark line (codes "[") (decimal i ++ codes "]") (Sign OpenSquare ∷ []) (Number i ∷ Sign CloseSquare ∷ [])
+    (λ rest. open_square_first rest line) (then_mark line (decimal i) (codes "]") (Number i ∷ []) (Sign CloseSquare ∷ []) (a_number line i h)
+    (λ rest. close_square_first rest line) (λ rest. refl))
 
 pub indexes_lex : (line : ℕ) (is : List ℕ) → AreWords is → Always line (indexes_text is) (index_tokens is)
 indexes_lex line [] h = nothing line
 indexes_lex line (i ∷ is) h =
-    mark_mark line (codes "[" ++ (decimal i ++ codes "]")) (indexes_text is) (Sign OpenSquare ∷ Number i ∷ Sign CloseSquare ∷ []) (index_tokens is) (index_lex line i h.0) (indexes_lex line is h.1)
+    mark_mark line (codes "[" ++ (decimal i ++ codes "]")) (indexes_text is) (Sign OpenSquare ∷ Number i ∷ Sign CloseSquare ∷ []) (index_tokens is)
+    (index_lex line i h.0) (indexes_lex line is h.1)
 
 pub indexes_part : (is : List ℕ) (rest : List ℕ) → Stops rest → Stops (indexes_text is ++ rest)
 indexes_part [] rest s = s
@@ -312,7 +353,8 @@ indexes_part (i ∷ is) rest s = refl
 
 value_lex : (line : ℕ) (w : List ℕ) (is : List ℕ) → is_name w ≡ true → AreWords is → Lexes line (w ++ indexes_text is) (Name w ∷ index_tokens is)
 value_lex line w is n h rest s =
-    joined line w (indexes_text is) rest (Name w ∷ []) (index_tokens is) (a_name line w n (indexes_text is ++ rest) (indexes_part is rest s)) (indexes_lex line is h rest)
+    joined line w (indexes_text is) rest (Name w ∷ []) (index_tokens is) (a_name line w n (indexes_text is ++ rest) (indexes_part is rest s))
+    (indexes_lex line is h rest)
 
 -- the tokens of a param's value
 abbrev pub value_tokens : PlainProgram → (number place : ℕ) → List Token
@@ -347,28 +389,33 @@ IsWritable p (binary op a b) = IsWritable p a × IsWritable p b
 IsWritable p (choice c a b) = IsWritable p c × IsWritable p a × IsWritable p b
 IsWritable p (cast t a) = (is_name (type_text t) ≡ true) × IsWritable p a
 
-pub value_is : (p : PlainProgram) (k i : ℕ) (q : PlainParam) → slice_get p.params k ≡ Some q → value_text p k i ≡ q.name ++ indexes_text (indexes q.sizes i)
+pub value_is : (p : PlainProgram) (k i : ℕ) (q : PlainParam) → slice_get p.params k ≡ Some q
+    → value_text p k i ≡ q.name ++ indexes_text (indexes q.sizes i)
 unfolding value_text
 value_is p k i q e =
     ap (λ (o : Option PlainParam). elim o as (λ v. List ℕ) [ None ↦ [] | Some r ↦ r.name ++ indexes_text (indexes r.sizes i) ]) e
 
-value_tokens_are : (p : PlainProgram) (k i : ℕ) (q : PlainParam) → slice_get p.params k ≡ Some q → value_tokens p k i ≡ Name q.name ∷ index_tokens (indexes q.sizes i)
+value_tokens_are : (p : PlainProgram) (k i : ℕ) (q : PlainParam) → slice_get p.params k ≡ Some q
+    → value_tokens p k i ≡ Name q.name ∷ index_tokens (indexes q.sizes i)
 value_tokens_are p k i q e =
     ap (λ (o : Option PlainParam). elim o as (λ v. List Token) [ None ↦ [] | Some r ↦ Name r.name ∷ index_tokens (indexes r.sizes i) ]) e
 
 value_begins : (p : PlainProgram) (k i : ℕ) → IsValueThere p k i → BeginsOther (value_text p k i)
 value_begins p k i h =
-    let own : BeginsOther (h.param.name ++ indexes_text (indexes h.param.sizes i)) = begins_more h.param.name (indexes_text (indexes h.param.sizes i)) (name_begins h.param.name h.name) in
+    let own : BeginsOther (h.param.name ++ indexes_text (indexes h.param.sizes i)) = begins_more h.param.name (indexes_text (indexes h.param.sizes i))
+    (name_begins h.param.name h.name) in
     subst BeginsOther (sym (value_is p k i h.param h.there)) own
 
 value_text_lex : (p : PlainProgram) (line k i : ℕ) → IsValueThere p k i → Lexes line (value_text p k i) (value_tokens p k i)
 value_text_lex p line k i h =
-    let own : Lexes line (h.param.name ++ indexes_text (indexes h.param.sizes i)) (Name h.param.name ∷ index_tokens (indexes h.param.sizes i)) = value_lex line h.param.name (indexes h.param.sizes i) h.name h.small in
-    let text : Lexes line (value_text p k i) (Name h.param.name ∷ index_tokens (indexes h.param.sizes i)) = subst (λ (w : List ℕ). Lexes line w (Name h.param.name ∷ index_tokens (indexes h.param.sizes i))) (sym (value_is p k i h.param h.there)) own in
+    let own : Lexes line (h.param.name ++ indexes_text (indexes h.param.sizes i))
+    (Name h.param.name ∷ index_tokens (indexes h.param.sizes i)) = value_lex line h.param.name (indexes h.param.sizes i) h.name h.small in
+    let text : Lexes line (value_text p k i) (Name h.param.name ∷ index_tokens (indexes h.param.sizes i)) = subst
+    (λ (w : List ℕ). Lexes line w (Name h.param.name ∷ index_tokens (indexes h.param.sizes i))) (sym (value_is p k i h.param h.there)) own in
     subst (λ (ts : List Token). Lexes line (value_text p k i) ts) (sym (value_tokens_are p k i h.param h.there)) text
 
 binary_begins : (op : BinOp) (left right : ℕ) (v w : List ℕ) → BeginsOther v → BeginsOther (binary_text op left right v w)
-unfolding binary_text binary_word
+unfolding binary_text
 binary_begins LogOr left right v w h = begins_more (in_pairs left v) _ (in_pairs_begin left v h)
 binary_begins LogAnd left right v w h = begins_more (in_pairs left v) _ (in_pairs_begin left v h)
 binary_begins BitOr left right v w h = begins_more (in_pairs left v) _ (in_pairs_begin left v h)
@@ -389,7 +436,7 @@ binary_begins Min left right v w h = refl
 binary_begins Max left right v w h = refl
 
 unary_begins : (op : UnOp) (pairs : ℕ) (w : List ℕ) → BeginsOther (unary_text op pairs w)
-unfolding unary_text unary_word
+unfolding unary_text
 unary_begins Plus pairs w = refl
 unary_begins Minus pairs w = refl
 unary_begins Flip pairs w = refl
@@ -410,13 +457,19 @@ formula_begins p (cast t a) h = begins_more (type_text t) _ (name_begins (type_t
 pub formula_lex : (p : PlainProgram) (line : ℕ) (f : Formula) → IsWritable p f → Lexes line (formula_text p f) (formula_tokens p f)
 formula_lex p line (number n) h = a_number line n h
 formula_lex p line (read t o) h =
-    always_lexes line (tensor_name p t ++ listed (map signed_decimal o)) ((Name (tensor_name p t) ∷ []) ++ listed_tokens (map component_tokens o)) (then_mark line (tensor_name p t) (listed (map signed_decimal o)) (Name (tensor_name p t) ∷ []) (listed_tokens (map component_tokens o)) (a_name line (tensor_name p t) h.0) (listed_lex line (map signed_decimal o) (map component_tokens o) (components_lex line o h.1)) (λ rest. refl))
+    always_lexes line (tensor_name p t ++ listed (map signed_decimal o)) ((Name (tensor_name p t) ∷ []) ++ listed_tokens (map component_tokens o))
+    (then_mark line (tensor_name p t) (listed (map signed_decimal o)) (Name (tensor_name p t) ∷ []) (listed_tokens (map component_tokens o))
+    (a_name line (tensor_name p t) h.0) (listed_lex line (map signed_decimal o) (map component_tokens o) (components_lex line o h.1))
+    (λ rest. refl))
 formula_lex p line (param k i) h = value_text_lex p line k i h
 formula_lex p line (unary op a) h =
     unary_lex line op (operand_pairs op a) (formula_text p a) (formula_tokens p a) (formula_begins p a h) (formula_lex p line a h)
 formula_lex p line (binary op a b) h =
-    binary_lex line op (left_pairs op a) (right_pairs op b) (formula_text p a) (formula_text p b) (formula_tokens p a) (formula_tokens p b) (formula_lex p line a h.0) (formula_lex p line b h.1)
+    binary_lex line op (left_pairs op a) (right_pairs op b) (formula_text p a) (formula_text p b) (formula_tokens p a) (formula_tokens p b)
+    (formula_lex p line a h.0) (formula_lex p line b h.1)
 formula_lex p line (choice c a b) h =
-    call_lex line (codes "select") (formula_text p c ∷ formula_text p a ∷ formula_text p b ∷ []) (formula_tokens p c ∷ formula_tokens p a ∷ formula_tokens p b ∷ []) refl (formula_lex p line c h.0, (formula_lex p line a h.1, (formula_lex p line b h.2, tt)))
+    call_lex line (codes "select") (formula_text p c ∷ formula_text p a ∷ formula_text p b ∷ [])
+    (formula_tokens p c ∷ formula_tokens p a ∷ formula_tokens p b ∷ []) refl
+    (formula_lex p line c h.0, (formula_lex p line a h.1, (formula_lex p line b h.2, tt)))
 formula_lex p line (cast t a) h =
     call_lex line (type_text t) (formula_text p a ∷ []) (formula_tokens p a ∷ []) h.0 (formula_lex p line a h.1, tt)

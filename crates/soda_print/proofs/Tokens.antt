@@ -58,12 +58,14 @@ passed (b ∷ bs) rest line h =
 third_of : (s t u : Bool) (f g h k : Front) → s ≡ false → t ≡ false → u ≡ true → cond s f (cond t g (cond u h k)) ≡ h
 third_of s t u f g h k p q r = rw (p, q, r) refl
 
-word_front : (b : ℕ) (bs : List ℕ) → is_word_byte b ≡ true → front_of b bs ≡ record { token = Some (word_token (b ∷ first_word bs)); more = length (first_word bs) }
+word_front : (b : ℕ) (bs : List ℕ) → is_word_byte b ≡ true
+    → front_of b bs ≡ record { token = Some (word_token (b ∷ first_word bs)); more = length (first_word bs) }
 unfolding front_of
 word_front b bs w = third_of (is_white b) (b == 35) (is_word_byte b) _ _ _ _ (not_white b w) (differs b 35 refl w) w
 
 -- a word is one token, where it doesn't go on
-pub word_first : (b : ℕ) (w rest : List ℕ) (line : ℕ) → are_word_bytes (b ∷ w) ≡ true → Stops rest → tokens_behind 0 line (b ∷ (w ++ rest)) ≡ on_line line (word_token (b ∷ w)) ∷ tokens_behind 0 line rest
+pub word_first : (b : ℕ) (w rest : List ℕ) (line : ℕ) → are_word_bytes (b ∷ w) ≡ true → Stops rest
+    → tokens_behind 0 line (b ∷ (w ++ rest)) ≡ on_line line (word_token (b ∷ w)) ∷ tokens_behind 0 line rest
 unfolding tokens_behind
 word_first b w rest line h s =
     let one : is_word_byte b ≡ true = (and_parts (is_word_byte b) (are_word_bytes w) h).0 in
@@ -136,7 +138,9 @@ own = numerals_by_fold _ (search rules) value_behind (search rules)
 pub digits_words : (ds : List ℕ) → list_all is_digit ds ≡ true → are_word_bytes ds ≡ true
 digits_words [] h = refl
 digits_words (d ∷ ds) h =
-    and_from (begins_name d || is_digit d) (are_word_bytes ds) (or_right (begins_name d) (is_digit d) ((and_parts (is_digit d) (list_all is_digit ds) h).0)) (digits_words ds ((and_parts (is_digit d) (list_all is_digit ds) h).1))
+    and_from (begins_name d || is_digit d) (are_word_bytes ds)
+    (or_right (begins_name d) (is_digit d) ((and_parts (is_digit d) (list_all is_digit ds) h).0))
+    (digits_words ds ((and_parts (is_digit d) (list_all is_digit ds) h).1))
 
 some_digits : (ds : List ℕ) → list_all is_digit ds ≡ true → 0 < length ds → is_some_digits ds ≡ true
 some_digits [] h lt = absurd (omega arith)
@@ -156,18 +160,22 @@ one_zero (suc n) h = no_zero_first (decimal (suc n)) (first_decimal (suc n) (ome
 
 pub number_is : (n : ℕ) → n < 2 ^ 64 → is_number (decimal n) ≡ true
 number_is n h =
-    and_from (is_some_digits (decimal n) && (not (begins_with_zero (decimal n)) || length (decimal n) == 1)) (nat_lt (value_behind 0 (decimal n)) (2 ^ 64))
-    (and_from (is_some_digits (decimal n)) (not (begins_with_zero (decimal n)) || length (decimal n) == 1) (some_digits (decimal n) (digits_decimal own n h) (decimal_nonempty n h)) (one_zero n h))
+    and_from (is_some_digits (decimal n) && (not (begins_with_zero (decimal n)) || length (decimal n) == 1))
+    (nat_lt (value_behind 0 (decimal n)) (2 ^ 64))
+    (and_from (is_some_digits (decimal n)) (not (begins_with_zero (decimal n)) || length (decimal n) == 1)
+    (some_digits (decimal n) (digits_decimal own n h) (decimal_nonempty n h)) (one_zero n h))
     (lt-ltb (value_behind 0 (decimal n)) (2 ^ 64) (omega (arith, digits_value-decimal own n h)))
 
 -- a name is one token
-pub name_first : (w rest : List ℕ) (line : ℕ) → is_name w ≡ true → Stops rest → tokens_behind 0 line (w ++ rest) ≡ on_line line (Name w) ∷ tokens_behind 0 line rest
+pub name_first : (w rest : List ℕ) (line : ℕ) → is_name w ≡ true → Stops rest
+    → tokens_behind 0 line (w ++ rest) ≡ on_line line (Name w) ∷ tokens_behind 0 line rest
 name_first [] rest line h s = cc
 name_first (b ∷ w) rest line h s =
     let lead : (begins_name b && are_word_bytes w) ≡ true = (and_parts (begins_name b && are_word_bytes w) (nat_lt (length w) 64) h).0 in
     let one : is_word_byte b ≡ true = or_left (begins_name b) (is_digit b) ((and_parts (begins_name b) (are_word_bytes w) lead).0) in
     word_first b w rest line (and_from (is_word_byte b) (are_word_bytes w) one ((and_parts (begins_name b) (are_word_bytes w) lead).1)) s
-    ∙ ap (λ t. on_line line (if t then Name (b ∷ w) else (if is_number (b ∷ w) then Number (value_behind 0 (b ∷ w)) else Bad)) ∷ tokens_behind 0 line rest) h
+    ∙ ap (λ t. on_line line
+    (if t then Name (b ∷ w) else (if is_number (b ∷ w) then Number (value_behind 0 (b ∷ w)) else Bad)) ∷ tokens_behind 0 line rest) h
 
 other : (d k : ℕ) → nat_le d 57 ≡ true → 57 < k → d == k ≡ false
 other d k h lt = grind (arith, nat_tests)
@@ -178,28 +186,34 @@ above k d h lt = grind (arith, nat_tests)
 no_name_digit : (d : ℕ) → is_digit d ≡ true → begins_name d ≡ false
 no_name_digit d h =
     let most : nat_le d 57 ≡ true = (and_parts (nat_le 48 d) (nat_le d 57) h).1 in
-    neither (nat_le 65 d && nat_le d 90) (nat_le 97 d && nat_le d 122) (d == 95) (ap (λ t. t && nat_le d 90) (above 65 d most (lit< tt))) (ap (λ t. t && nat_le d 122) (above 97 d most (lit< tt))) (other d 95 most (lit< tt))
+    neither (nat_le 65 d && nat_le d 90) (nat_le 97 d && nat_le d 122) (d == 95) (ap (λ t. t && nat_le d 90) (above 65 d most (lit< tt)))
+    (ap (λ t. t && nat_le d 122) (above 97 d most (lit< tt))) (other d 95 most (lit< tt))
 
 digits_no_name : (ds : List ℕ) → list_all is_digit ds ≡ true → is_name ds ≡ false
 digits_no_name [] h = refl
 digits_no_name (d ∷ ds) h =
     ap (λ t. t && are_word_bytes ds && nat_lt (length ds) 64) (no_name_digit d ((and_parts (is_digit d) (list_all is_digit ds) h).0))
 
-word_numbered : (w : List ℕ) (n line : ℕ) (rest : List ℕ) → w ≡ decimal n → 0 < length w → are_word_bytes w ≡ true → Stops rest → tokens_behind 0 line (w ++ rest) ≡ on_line line (word_token w) ∷ tokens_behind 0 line rest
+word_numbered : (w : List ℕ) (n line : ℕ) (rest : List ℕ) → w ≡ decimal n → 0 < length w → are_word_bytes w ≡ true → Stops rest
+    → tokens_behind 0 line (w ++ rest) ≡ on_line line (word_token w) ∷ tokens_behind 0 line rest
 word_numbered [] n line rest e lt h s = absurd (omega arith)
 word_numbered (b ∷ w) n line rest e lt h s = word_first b w rest line h s
 
 -- a number is one token
-pub number_first : (n : ℕ) (rest : List ℕ) (line : ℕ) → n < 2 ^ 64 → Stops rest → tokens_behind 0 line (decimal n ++ rest) ≡ on_line line (Number n) ∷ tokens_behind 0 line rest
+pub number_first : (n : ℕ) (rest : List ℕ) (line : ℕ) → n < 2 ^ 64 → Stops rest
+    → tokens_behind 0 line (decimal n ++ rest) ≡ on_line line (Number n) ∷ tokens_behind 0 line rest
 number_first n rest line h s =
     let digits = digits_decimal own n h in
     word_numbered (decimal n) n line rest refl (decimal_nonempty n h) (digits_words (decimal n) digits) s
-    ∙ ap (λ t. on_line line (if t then Name (decimal n) else (if is_number (decimal n) then Number (value_behind 0 (decimal n)) else Bad)) ∷ tokens_behind 0 line rest) (digits_no_name (decimal n) digits)
+    ∙ ap (λ t. on_line line
+    (if t then Name (decimal n) else (if is_number (decimal n) then Number (value_behind 0 (decimal n)) else Bad)) ∷ tokens_behind 0 line rest)
+    (digits_no_name (decimal n) digits)
     ∙ ap (λ t. on_line line (if t then Number (value_behind 0 (decimal n)) else Bad) ∷ tokens_behind 0 line rest) (number_is n h)
     ∙ ap (λ v. on_line line (Number v) ∷ tokens_behind 0 line rest) (digits_value-decimal own n h)
 
 -- `!` is a token where no `=` follows
-pub bang_first : (b : ℕ) (rest : List ℕ) (line : ℕ) → b == 61 ≡ false → tokens_behind 0 line (33 ∷ b ∷ rest) ≡ on_line line (Sign Bang) ∷ tokens_behind 0 line (b ∷ rest)
+pub bang_first : (b : ℕ) (rest : List ℕ) (line : ℕ) → b == 61 ≡ false
+    → tokens_behind 0 line (33 ∷ b ∷ rest) ≡ on_line line (Sign Bang) ∷ tokens_behind 0 line (b ∷ rest)
 unfolding tokens_behind front_of
 bang_first b rest line h = rw h refl
 

@@ -41,11 +41,11 @@ unfoldable pub type_text : IntType → List ℕ
 type_text t = (if t.signed then codes "int" else codes "uint") ++ decimal t.bits
 
 -- how an operator of one operand is written
-unfoldable pub unary_word : UnOp → List ℕ
+abbrev pub unary_word : UnOp → List ℕ
 unary_word op = (unary_row op).spelling
 
 -- how an operator of two operands is written
-unfoldable pub binary_word : BinOp → List ℕ
+abbrev pub binary_word : BinOp → List ℕ
 binary_word op = (binary_row op).spelling
 
 -- an operator of this row is written as a call
@@ -110,13 +110,21 @@ role_word Input = codes "input"
 role_word Local = codes "local"
 role_word Output = codes "output"
 
--- the tile of an input: the fixed extents, and `*`
-abbrev pub tile_text : PlainProgram → List ℕ
-tile_text p = listed (map decimal p.extents ++ codes "*" ∷ [])
+-- the items of a tile: the fixed extents, and `*`
+abbrev pub tile_items : (extents : List ℕ) → List (List ℕ)
+tile_items extents = map decimal extents ++ codes "*" ∷ []
 
--- the left side of a formula: a zero for each dimension
+-- the tile of an input
+abbrev pub tile_text : PlainProgram → List ℕ
+tile_text p = listed (tile_items p.extents)
+
+-- a zero for each dimension
+abbrev pub left_items : (extents : List ℕ) → List (List ℕ)
+left_items extents = map (λ n. codes "0") extents ++ codes "0" ∷ []
+
+-- the left side of a formula
 abbrev pub left_text : PlainProgram → List ℕ
-left_text p = listed (map (λ n. codes "0") p.extents ++ codes "0" ∷ [])
+left_text p = listed (left_items p.extents)
 
 -- the line of a tensor: an input with its tile, a local or output with its formula
 abbrev pub tensor_line : PlainProgram → PlainTensor → List ℕ

@@ -1,8 +1,9 @@
 ghost use Rattle.std.specs.Prelude.{◌≡◌, ◌++◌, OnOk};
 ghost use Rattle.soda_ir.specs.Program.{plain};
 ghost use Rattle.soda_ir.specs.Tree.{formula_of};
-ghost use Rattle.soda_print.specs.Canonical.{formula_text, indexes, indexes_text, tensor_name, value_text};
+ghost use Rattle.soda_print.specs.Canonical.{indexes, indexes_text, tensor_name, value_text};
 ghost use Rattle.soda_print.specs.Sized.{IsSized};
+ghost use Rattle.soda_print.specs.machine.Held.{held_formula};
 ghost use Rattle.soda_print.specs.machine.Steps.{binary_begin, binary_end, binary_middle, unary_begin, unary_end};
 
 use crate::NoMemory;
@@ -61,7 +62,7 @@ fn add_value(
 }
 
 // Adds what stands in front of the operand of an operator.
-#[tactic(auto, using(crate::proofs::Appended::appended), unfolding(crate::specs::machine::Steps::unary_begin, crate::specs::Canonical::unary_word))]
+#[tactic(auto, using(crate::proofs::Appended::appended), unfolding(crate::specs::machine::Steps::unary_begin))]
 fn begin_unary(text: &mut Vec<u8>, op: UnOp, pairs: u64) -> Result<(), NoMemory>
     ensures { OnOk result (text.new.items ≡ text.old.items ++ unary_begin op pairs) }
 {
@@ -86,7 +87,7 @@ fn end_unary(text: &mut Vec<u8>, op: UnOp, pairs: u64) -> Result<(), NoMemory>
 }
 
 // Adds what stands in front of the left operand of an operator.
-#[tactic(auto, using(crate::proofs::Appended::appended), unfolding(crate::specs::machine::Steps::binary_begin, crate::specs::Canonical::binary_word))]
+#[tactic(auto, using(crate::proofs::Appended::appended), unfolding(crate::specs::machine::Steps::binary_begin))]
 fn begin_binary(text: &mut Vec<u8>, op: BinOp, left: u64) -> Result<(), NoMemory>
     ensures { OnOk result (text.new.items ≡ text.old.items ++ binary_begin op left) }
 {
@@ -99,7 +100,7 @@ fn begin_binary(text: &mut Vec<u8>, op: BinOp, left: u64) -> Result<(), NoMemory
 }
 
 // Adds what stands between the operands of an operator.
-#[tactic(auto, using(crate::proofs::Appended::appended), unfolding(crate::specs::machine::Steps::binary_middle, crate::specs::Canonical::binary_word))]
+#[tactic(auto, using(crate::proofs::Appended::appended), unfolding(crate::specs::machine::Steps::binary_middle))]
 fn part_binary(text: &mut Vec<u8>, op: BinOp, left: u64, right: u64) -> Result<(), NoMemory>
     ensures { OnOk result (text.new.items ≡ text.old.items ++ binary_middle op left right) }
 {
@@ -134,7 +135,7 @@ pub(crate) fn add_formula(
     parts: &Parts,
     formula: &Expr,
 ) -> Result<(), NoMemory>
-    ensures adds { OnOk result (text.new.items ≡ text.old.items ++ formula_text (plain parts.now) (formula_of formula.now)) }
+    ensures adds { OnOk result (text.new.items ≡ text.old.items ++ held_formula parts.now formula.now) }
     ensures sized { OnOk result (IsSized (formula_of formula.now)) }
 {
     match formula {

@@ -4,14 +4,15 @@ ghost use Rattle.soda_ir.specs.Program.{plain, plain_param, plain_tensor};
 ghost use Rattle.soda_ir.specs.Valid.{IsValid};
 ghost use Rattle.soda_words.specs.IntType.{IsType};
 ghost use Rattle.soda_print.specs.Sized.{AreSizedParams, AreSizedTensors, IsSizedProgram, IsSizedTensor};
-ghost use Rattle.soda_print.specs.Canonical.{canonical, ended, headed, param_line, setting_lines, tensor_line};
+ghost use Rattle.soda_print.specs.Canonical.{canonical, ended, headed, param_line, setting_lines};
+ghost use Rattle.soda_print.specs.machine.Held.{held_line, held_params, held_tensors};
 
 use crate::NoMemory;
 use crate::formulas::add_formula;
 use crate::text::{add, add_indexes, add_left, add_number, add_tile, add_type, end_line};
 use crate::words::{border_word, role_word};
-use soda_words::Ty;
 use soda_ir::{Param, Parts, Program, Tensor};
+use soda_words::Ty;
 use std::alloc::Global;
 
 // Adds a line with a number.
@@ -84,7 +85,7 @@ fn add_param(alloc: Global, text: &mut Vec<u8>, param: &Param) -> Result<(), NoM
 
 // Adds the lines of params.
 fn add_params(alloc: Global, text: &mut Vec<u8>, params: &[Param]) -> Result<(), NoMemory>
-    ensures adds { OnOk result (text.new.items ≡ text.old.items ++ ended (map param_line (map plain_param params.now))) }
+    ensures adds { OnOk result (text.new.items ≡ text.old.items ++ held_params params.now) }
     ensures sized { OnOk result (AreSizedParams (map plain_param params.now)) }
 {
     for param in params {
@@ -101,7 +102,7 @@ fn add_tensor(
     parts: &Parts,
     tensor: &Tensor,
 ) -> Result<(), NoMemory>
-    ensures adds { OnOk result (text.new.items ≡ text.old.items ++ (tensor_line (plain parts.now) (plain_tensor tensor.now) ++ codes "\n")) }
+    ensures adds { OnOk result (text.new.items ≡ text.old.items ++ (held_line parts.now tensor.now ++ codes "\n")) }
     ensures sized { OnOk result (IsSizedTensor (plain_tensor tensor.now)) }
 {
     add_head(
@@ -129,7 +130,7 @@ fn add_tensors(
     parts: &Parts,
     tensors: &[Tensor],
 ) -> Result<(), NoMemory>
-    ensures adds { OnOk result (text.new.items ≡ text.old.items ++ ended (map (tensor_line (plain parts.now)) (map plain_tensor tensors.now))) }
+    ensures adds { OnOk result (text.new.items ≡ text.old.items ++ held_tensors parts.now tensors.now) }
     ensures sized { OnOk result (AreSizedTensors (map plain_tensor tensors.now)) }
 {
     for tensor in tensors {

@@ -1,7 +1,7 @@
 ghost use Rattle.std.specs.Prelude.{◌≡◌, ◌++◌, ◌∷◌, [], map, codes, OnOk, if◌then◌else◌, ◌==◌};
 ghost use Rattle.std.specs.Fmt.{decimal, signed_decimal};
 ghost use Rattle.soda_words.specs.IntType.{IsType};
-ghost use Rattle.soda_print.specs.Canonical.{behind_commas, closing, indexes_text, listed, opening, parted, type_text};
+ghost use Rattle.soda_print.specs.Canonical.{behind_commas, closing, indexes_text, left_items, listed, opening, parted, tile_items, type_text};
 
 use crate::NoMemory;
 use soda_words::Ty;
@@ -139,7 +139,7 @@ pub(crate) fn add_indexes(
 // Adds the fixed extents and `*`, parted.
 #[tactic(auto, using(crate::proofs::Appended::appended))]
 fn add_extents(alloc: Global, text: &mut Vec<u8>, extents: &[u64]) -> Result<(), NoMemory>
-    ensures { OnOk result (text.new.items ≡ text.old.items ++ parted (map decimal extents.now ++ codes "*" ∷ [])) }
+    ensures { OnOk result (text.new.items ≡ text.old.items ++ parted (tile_items extents.now)) }
 {
     match extents {
         [] => add(text, b"*"),
@@ -154,7 +154,7 @@ fn add_extents(alloc: Global, text: &mut Vec<u8>, extents: &[u64]) -> Result<(),
 /// Adds a tile in its brackets.
 #[tactic(auto, using(crate::proofs::Appended::appended))]
 pub(crate) fn add_tile(alloc: Global, text: &mut Vec<u8>, extents: &[u64]) -> Result<(), NoMemory>
-    ensures { OnOk result (text.new.items ≡ text.old.items ++ listed (map decimal extents.now ++ codes "*" ∷ [])) }
+    ensures { OnOk result (text.new.items ≡ text.old.items ++ listed (tile_items extents.now)) }
 {
     add(text, b"(")?;
     add_extents(alloc, text, extents)?;
@@ -164,7 +164,7 @@ pub(crate) fn add_tile(alloc: Global, text: &mut Vec<u8>, extents: &[u64]) -> Re
 // Adds a zero for each fixed extent and one for the last, parted.
 #[tactic(auto, using(crate::proofs::Appended::appended))]
 fn add_zeros(text: &mut Vec<u8>, extents: &[u64]) -> Result<(), NoMemory>
-    ensures { OnOk result (text.new.items ≡ text.old.items ++ parted (map (λ n. codes "0") extents.now ++ codes "0" ∷ [])) }
+    ensures { OnOk result (text.new.items ≡ text.old.items ++ parted (left_items extents.now)) }
 {
     match extents {
         [] => add(text, b"0"),
@@ -178,7 +178,7 @@ fn add_zeros(text: &mut Vec<u8>, extents: &[u64]) -> Result<(), NoMemory>
 /// Adds a left side in its brackets.
 #[tactic(auto, using(crate::proofs::Appended::appended))]
 pub(crate) fn add_left(text: &mut Vec<u8>, extents: &[u64]) -> Result<(), NoMemory>
-    ensures { OnOk result (text.new.items ≡ text.old.items ++ listed (map (λ n. codes "0") extents.now ++ codes "0" ∷ [])) }
+    ensures { OnOk result (text.new.items ≡ text.old.items ++ listed (left_items extents.now)) }
 {
     add(text, b"(")?;
     add_zeros(text, extents)?;
