@@ -1,13 +1,13 @@
 -- The tokens of a text that is put together part by part.
-use Rattle.std.proofs.Common.{◌≡◌, ℕ, zero, suc, ◌<◌, ◌^◌, ◌==◌, Bool, true, false, not, ◌&&◌, ◌||◌, nat_le, nat_lt, lit<, List, [], ◌∷◌, ◌++◌, length, get_or, Some, refl, sym, ap, ◌∙◌, arith, rules, cond, inl, inr, if◌then◌else◌, lt-ltb}
+use Rattle.std.proofs.Common.{◌≡◌, ℕ, suc, ◌<◌, ◌^◌, ◌==◌, Bool, true, false, ◌&&◌, ◌||◌, nat_le, nat_lt, lit<, List, [], ◌∷◌, ◌++◌, length, Some, refl, sym, ap, ◌∙◌, arith, cond, inl, inr, if◌then◌else◌}
 use Rattle.std.specs.Fmt.{decimal}
 use Rattle.std.specs.List.{list_all}
-use Rattle.std.proofs.lemmas.Bool.{and_from, and_parts, eqb-true, or_left, or_right}
+use Rattle.std.proofs.lemmas.Bool.{and_from, and_parts, or_left}
 use Rattle.std.proofs.lemmas.Bool.Decides.{eqb_tells, nat_tests}
 use Rattle.std.proofs.lemmas.Fmt.{decimal_nonempty, digits_decimal, digits_value-decimal}
 use Rattle.soda_words.proofs.CallerLemmas.{digits_words, number_is, own}
-use Rattle.soda_words.specs.Names.{begins_name, is_digit, is_name, is_some_digits, is_word_byte}
-use Rattle.soda_words.specs.Tokens.{Front, begins_with_zero, first_word, front_of, is_number, is_white, line_behind, placed, tokens_behind, value_behind, word_token}
+use Rattle.soda_words.specs.Names.{begins_name, is_digit, is_name, is_word_byte}
+use Rattle.soda_words.specs.Tokens.{Front, first_word, front_of, is_number, is_white, line_behind, placed, tokens_behind, value_behind, word_token}
 use Rattle.soda_words.specs.declared.symbol.Symbol.TheVariants.{OpenRound, CloseRound, OpenSquare, CloseSquare, Comma, Colon, PlusSign, MinusSign, Tilde, Bang}
 use Rattle.soda_words.specs.declared.token.Placed.{Placed}
 use Rattle.soda_words.specs.declared.token.Token.{Token}
