@@ -14,11 +14,12 @@ use Rattle.soda_ir.specs.Points.{size}
 use Rattle.soda_ir.specs.Program.{PlainParam, PlainProgram, PlainTensor}
 use Rattle.soda_ir.specs.Uses.{each_use, is_good_cell, is_good_place, is_near}
 use Rattle.soda_ir.specs.Valid.{IsValid, KeepsLimits, are_free_names, has_good_uses, is_good_param, names_of, value_count}
+use Rattle.soda_words.proofs.CallerLemmas.{digits_words, own}
 use Rattle.soda_words.specs.Names.{is_free_name, is_name, is_reserved, is_word}
 use Rattle.soda_words.specs.Tokens.{tokens_of}
 use Rattle.soda_print.specs.Canonical.{canonical, indexes, tensor_name, type_text}
 use Rattle.soda_print.specs.Sized.{AreSizedParams, AreSizedTensors, IsSized, IsSizedProgram}
-use Rattle.soda_print.proofs.Tokens.{are_word_bytes, digits_words, own}
+use Rattle.soda_print.proofs.Tokens.{are_word_bytes}
 use Rattle.soda_print.proofs.Tokenized.{AreSmall, AreWords, IsValueThere, IsWritable}
 use Rattle.soda_print.proofs.Read.{AreParams, AreSettings, AreTensors, IsBody, IsParam, IsReadBack, IsTensor, canonical_lex, canonical_tokens, placed_lines}
 

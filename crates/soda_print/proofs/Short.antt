@@ -21,7 +21,7 @@ use Rattle.soda_ir.specs.declared.program.Border.TheVariants.{Ignore, Preserve}
 use Rattle.soda_ir.specs.declared.program.Role.{Role}
 use Rattle.soda_ir.specs.declared.program.Role.TheVariants.{Input, Local, Output}
 use Rattle.soda_words.specs.Names.{begins_name, is_name, is_word_byte}
-use Rattle.soda_print.specs.Canonical.{behind_commas, binary_text, binary_word, border_word, canonical, ended, formula_text, headed, in_pairs, indexes, indexes_text, left_text, listed, param_line, parted, role_word, setting_lines, tensor_line, tensor_name, tile_text, type_text, unary_text, unary_word, value_text}
+use Rattle.soda_print.specs.Canonical.{behind_commas, binary_text, border_word, canonical, ended, formula_text, headed, in_pairs, indexes, indexes_text, left_text, listed, param_line, parted, role_word, setting_lines, tensor_line, tensor_name, tile_text, type_text, unary_text, value_text}
 use Rattle.soda_print.specs.Sized.{IsSizedProgram}
 use Rattle.soda_print.proofs.Read.{AreParams, AreSettings, AreTensors, IsBody, IsReadBack}
 use Rattle.soda_print.proofs.Readable.{positive, readable}
