@@ -21,6 +21,7 @@ use Rattle.soda_words.specs.declared.token.Word.{Word}
 use Rattle.soda_words.specs.Names.{is_word}
 use Rattle.soda_parse.proofs.Lookups.{place_in_two, place_mapped}
 use Rattle.soda_parse.proofs.Statements.{AreDefined, none_defined, a_local, an_output, AreOrdered, no_input, an_input, declared_from, param_on, tensors_from, tile_of, word, written, zeros}
+use Rattle.std.proofs.lemmas.List.{length-map}
 
 -- the lines of params, from a line on
 abbrev pub param_lines : ℕ → List PlainParam → List ParamLine
@@ -154,14 +155,10 @@ unfolding outline_of outline_in
 outline_names p line [] d = ordered_names p line d
 outline_names p line (q ∷ qs) d = outline_names p (suc line) qs d
 
-length_mapped : {A B : Type 0} (f : A → B) (xs : List A) → length (map f xs) ≡ length xs
-length_mapped f [] = refl
-length_mapped f (x ∷ xs) = ap suc (length_mapped f xs)
-
 -- the number of a tensor is the place of its name
 pub number_is : (o : Outline) (w : Word) → tensor_number o w ≡ position (is_word w.text) (tensor_names o)
 number_is o w =
     let a = place_mapped (is_word w.text) (λ (i : InputLine). i.name.text) o.inputs in
     let b = place_mapped (is_word w.text) (λ (d : Defined). d.name.text) o.defined in
     let both = place_in_two (is_word w.text) (map (λ (i : InputLine). i.name.text) o.inputs) (map (λ (d : Defined). d.name.text) o.defined) in
-    rw (a, b, sym (length_mapped (λ (i : InputLine). i.name.text) o.inputs)) both
+    rw (a, b, sym (length-map o.inputs (λ (i : InputLine). i.name.text))) both

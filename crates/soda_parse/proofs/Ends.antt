@@ -3,7 +3,7 @@ use Rattle.std.proofs.Common.{◌≡◌, ◌≢◌, ℕ, zero, suc, ◌+◌, ◌
 use Rattle.std.specs.Prelude.{find, flat_map, nat_le, nat_lt, slice_get}
 use Rattle.std.specs.List.{list_all, list_any}
 use Rattle.std.proofs.lemmas.Bool.Decides.{nat_tests}
-use Rattle.std.proofs.lemmas.Bool.{eq-eqb, eqb-true}
+use Rattle.std.proofs.lemmas.Bool.{eq-eqb, eqb-true, not-true}
 use Rattle.soda_checks.specs.Conditions.{has_output, is_wrong_site}
 use Rattle.soda_checks.specs.Outline.{outline_in, outline_of, uses_in}
 use Rattle.soda_checks.specs.declared.outline.Defined.{Defined}
@@ -36,15 +36,11 @@ no_inputs o (input i ∷ ss) = no_inputs o ss
 no_inputs o (local f ∷ ss) = no_inputs o ss
 no_inputs o (output f ∷ ss) = no_inputs o ss
 
-not_true : (b : Bool) → not b ≡ true → b ≡ false
-not_true true e = cc
-not_true false e = refl
-
 none_first_input : (ts : List PlainTensor) → list_all (λ u. not (is_input_role u.role)) ts ≡ true → has_inputs_first ts ≡ true
 none_first_input [] e = refl
 none_first_input (t ∷ ts) e =
     let both = both_of (not (is_input_role t.role)) (list_all (λ u. not (is_input_role u.role)) ts) e in
-    let no : is_input_role t.role ≡ false = not_true (is_input_role t.role) both.0 in
+    let no : is_input_role t.role ≡ false = not-true (is_input_role t.role) both.0 in
     rw no both.1
 
 -- the inputs stand first

@@ -26,12 +26,15 @@ use Rattle.soda_words.specs.Names.{is_name, is_reserved, is_word}
 use Rattle.soda_words.specs.declared.token.Word.{Word}
 use Rattle.soda_parse.proofs.FineSites.{AreTensors, Passes, sites_none, types_none}
 use Rattle.soda_parse.proofs.Kept.{KeepsNames}
-use Rattle.soda_parse.proofs.Lookups.{Fresh, any_mapped, neither_of, one_there, there_front, there_mapped, word_sym}
+use Rattle.soda_parse.proofs.Lookups.{Fresh, any_mapped, one_there, there_front, there_mapped}
 use Rattle.soda_parse.proofs.ReadBack.{IsIndexed, IsParamAt, indexed, sizes_on}
 use Rattle.soda_parse.proofs.ReadProgram.{knows, names_are, names_fresh, outline, tensor_there, tensors_ordered, tile_is}
 use Rattle.soda_parse.proofs.SameTypes.{both_of}
 use Rattle.soda_parse.proofs.Statements.{AreDefined, none_defined, a_local, an_output, AreOrdered, no_input, an_input, declared_from, statements_of, tensors_from, tile_of, word, zeros}
 use Rattle.soda_parse.proofs.TypeWords.{no_float, type_known}
+use Rattle.std.proofs.lemmas.Bool.{not-true}
+use Rattle.soda_parse.proofs.Truths.{or_second, neither_of}
+use Rattle.soda_words.proofs.CallerLemmas.{is_word-turned}
 
 -- the settings are those five
 defined_settings : (p : PlainProgram) (line : ℕ) {ts : List PlainTensor} → AreDefined ts → (outline_of (tensors_from p line ts)).settings ≡ []
@@ -129,19 +132,15 @@ apart_end (x ∷ es) w ws h e = (h.0, apart_end es w ws h.1 e)
 none_alike : (es : List Word) (w : Word) (ws : List (List ℕ)) → Apart es (w.text ∷ ws) → is_one_of es w ≡ false
 none_alike [] w ws h = refl
 none_alike (e ∷ es) w ws h =
-    let other : is_word w.text e.text ≡ false = word_sym w.text e.text ∙ (neither_of (is_word e.text w.text) (list_any (is_word e.text) ws) h.0).0 in
+    let other : is_word w.text e.text ≡ false = is_word-turned w.text e.text ∙ (neither_of (is_word e.text w.text) (list_any (is_word e.text) ws) h.0).0 in
     rw other (none_alike es w ws h.1)
-
-not_true : (b : Bool) → not b ≡ true → b ≡ false
-not_true true e = cc
-not_true false e = refl
 
 none_taken : (earlier ws : List Word) → Fresh (texts ws) → Apart earlier (texts ws) → taken_behind earlier ws ≡ None
 none_taken earlier [] f a = refl
 none_taken earlier (w ∷ ws) f a =
     let free = both_of (is_name w.text) (not (is_reserved w.text)) f.0 in
     let more = none_taken (earlier ++ w ∷ []) ws f.2 (apart_end earlier w (texts ws) (apart_tail earlier w.text (texts ws) a) f.1) in
-    rw (not_true (is_reserved w.text) free.1, none_alike earlier w (texts ws) a) more
+    rw (not-true (is_reserved w.text) free.1, none_alike earlier w (texts ws) a) more
 
 names_once : (p : PlainProgram) → IsValid p → name_twice (outline p) ≡ None
 names_once p v =
@@ -153,16 +152,12 @@ known_text : (p : PlainProgram) → IsValid p → (w : Word) → list_any (is_wo
 known_text p v w h =
     any_mapped (is_word w.text) (λ (x : Word). x.text) (outline p).declared ∙ (ap (list_any (is_word w.text)) (declared_are p v) ∙ h)
 
-or_behind : (a b : Bool) → b ≡ true → (a || b) ≡ true
-or_behind true b e = refl
-or_behind false b e = e
-
 tensor_named : (p : PlainProgram) (k : ℕ) → k < length p.tensors → list_any (is_word (tensor_name p k)) (names_of p.params p.tensors) ≡ true
 tensor_named p k h =
     let qs : List (List ℕ) = map (λ (q : PlainParam). q.name) p.params in
     let ts : List (List ℕ) = map (λ (t : PlainTensor). t.name) p.tensors in
     list_any-append (is_word (tensor_name p k)) qs ts
-    ∙ or_behind (list_any (is_word (tensor_name p k)) qs) (list_any (is_word (tensor_name p k)) ts) (one_there ts k (tensor_name p k) (tensor_there p k h))
+    ∙ or_second (list_any (is_word (tensor_name p k)) qs) (list_any (is_word (tensor_name p k)) ts) (one_there ts k (tensor_name p k) (tensor_there p k h))
 
 param_named : (p : PlainProgram) (k : ℕ) (q : PlainParam) → slice_get p.params k ≡ Some q → list_any (is_word q.name) (names_of p.params p.tensors) ≡ true
 param_named p k q e =

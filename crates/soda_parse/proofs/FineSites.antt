@@ -25,6 +25,7 @@ use Rattle.soda_parse.proofs.SameTypes.{both_of}
 use Rattle.soda_parse.proofs.Statements.{AreDefined, none_defined, a_local, an_output, AreOrdered, no_input, an_input, declared_from, tensors_from, word, written, written_value, zeros}
 use Rattle.soda_parse.proofs.Tiling.{none_here}
 use Rattle.soda_parse.proofs.Uses.{far_uses}
+use Rattle.std.proofs.lemmas.Bool.{not-true, ltb-true}
 
 -- nothing is found in two lists
 pub none_two : {A : Type 0} (test : A → Bool) (xs ys : List A) → find test xs ≡ None → find test ys ≡ None → find test (xs ++ ys) ≡ None
@@ -43,13 +44,10 @@ pub record Passes (test : Site → Bool) (p : PlainProgram) : Type 0 where
   pub lefts : (w : Word) → test (Left w (zeros p)) ≡ false
   pub sizes : (line n : ℕ) → (n == 0) ≡ false → test (SiteSize (record { line = line; value = n })) ≡ false
 
-true_lt : (a b : ℕ) → nat_lt a b ≡ true → a < b
-true_lt a b h = grind (arith, nat_tests)
-
 value_none : (test : Site → Bool) (p : PlainProgram) (line k i : ℕ) (r : Option PlainParam) → Passes test p → slice_get p.params k ≡ r → (elim r as (λ v. Bool) [ None ↦ false | Some q ↦ nat_lt i (size q.sizes) ]) ≡ true → find test (uses_in (written_value line i r)) ≡ None
 value_none test p line k i None h e u = cc
 value_none test p line k i (Some q) h e u =
-    none_first_of test (Value (word line q.name) (indexes q.sizes i)) [] (h.values line k i q e (true_lt i (size q.sizes) u)) refl
+    none_first_of test (Value (word line q.name) (indexes q.sizes i)) [] (h.values line k i q e (ltb-true i (size q.sizes) u)) refl
 
 pub uses_none : (test : Site → Bool) (p : PlainProgram) (line : ℕ) (f : Formula) → Passes test p → each_use (is_good_cell p) (is_good_place p) f ≡ true → find test (uses_in (written p line f)) ≡ None
 uses_none test p line (number n) h u = refl
@@ -82,10 +80,6 @@ unfolding outline_of outline_in
 tensors_none test p line h (no_input d) u = defined_none test p line h d u
 tensors_none test p line h (an_input {ts} n ty more) u = tensors_none test p (suc line) h more u
 
-not_true : (b : Bool) → not b ≡ true → b ≡ false
-not_true true e = cc
-not_true false e = refl
-
 abbrev pub nonzero : ℕ → Bool
 nonzero n = not (n == 0)
 
@@ -93,7 +87,7 @@ sizes_none : (test : Site → Bool) (p : PlainProgram) (line : ℕ) (ns : List �
 sizes_none test p line [] h g = refl
 sizes_none test p line (n ∷ ns) h g =
     let both = both_of (nonzero n) (list_all nonzero ns) g in
-    none_first_of test (SiteSize (record { line = line; value = n })) (map (λ s. SiteSize s) (sizes_on line ns)) (h.sizes line n (not_true (n == 0) both.0)) (sizes_none test p line ns h both.1)
+    none_first_of test (SiteSize (record { line = line; value = n })) (map (λ s. SiteSize s) (sizes_on line ns)) (h.sizes line n (not-true (n == 0) both.0)) (sizes_none test p line ns h both.1)
 
 -- no site of the statements
 pub sites_none : (test : Site → Bool) (p : PlainProgram) (line : ℕ) (qs : List PlainParam) {ts : List PlainTensor} → Passes test p → AreOrdered ts → list_all is_good_param qs ≡ true → list_all (has_good_uses p) ts ≡ true → find test (outline_of (declared_from p line qs ts)).sites ≡ None

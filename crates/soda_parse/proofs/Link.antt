@@ -21,7 +21,7 @@ use Rattle.soda_parse.proofs.Cells.{all_fine, cells_fine}
 use Rattle.soda_parse.proofs.Named.{AreNamed, declared_named, kernel_named, names_named, params_good}
 use Rattle.soda_parse.proofs.Places.{HasParams, good_uses, values_small}
 use Rattle.soda_parse.proofs.AllUses.{all_uses, input_placed, two_sizes}
-use Rattle.soda_parse.proofs.Small.{small_tensors}
+use Rattle.soda_parse.proofs.SmallTensors.{small_tensors}
 use Rattle.soda_parse.proofs.FreeNames.{free_names}
 use Rattle.soda_parse.proofs.Texts.{param_texts, tensor_texts}
 use Rattle.soda_parse.proofs.Ends.{inputs_stand_first, all_formulas, an_input, an_output, has_burst, fits_itself, defined_placed}

@@ -9,6 +9,7 @@ use Rattle.std.specs.List.{list_all}
 use Rattle.soda_ir.specs.Uses.{is_near}
 use Rattle.soda_parse.specs.ProgramConditions.{first_past}
 use Rattle.soda_parse.specs.Meaning.{is_offset, offset_or_none, shifted}
+use Rattle.std.specs.Cmp.Derive.{both_true}
 
 -- the components before this one are made, all of them near
 pub record IsShifted (made : List ℤ) (index : ℕ) (offsets left : List ℤ) : Type 0 where
@@ -33,18 +34,15 @@ split (d ∷ ds) (e ∷ es) zero lt = refl
 split (d ∷ ds) [] (suc i) lt = let h = split ds [] i (omega arith) in rw (past_nil i) at h
 split (d ∷ ds) (e ∷ es) (suc i) lt = split ds es i (omega arith)
 
-both : (a b : Bool) → a ≡ true → b ≡ true → (a && b) ≡ true
-both a b e f = rw (e, f) refl
-
 pub shifted_more : (made made' offsets left : List ℤ) (i : ℕ) (near : ℤ) → IsShifted made i offsets left → i < length offsets → near ≡ get_or offsets i (pos 0) -ℤ slice_index_or left i (pos 0) → nat_le (unsigned_abs near) 32768 ≡ true → made' ≡ made ++ near ∷ [] → IsShifted made' (i + 1) offsets left
 shifted_more made made' offsets left i near h lt is small more = record {
   count = ap length more ∙ (length-append made (near ∷ []) ∙ ap (λ n. n + 1) h.count);
   short = h.short;
-  near = ap is_near more ∙ (list_all-append (λ (d : ℤ). nat_le (unsigned_abs d) 32768) made (near ∷ []) ∙ both _ _ h.near (both _ _ small refl));
+  near = ap is_near more ∙ (list_all-append (λ (d : ℤ). nat_le (unsigned_abs d) 32768) made (near ∷ []) ∙ both_true h.near (both_true small refl));
   value = rw (more, append_assoc, add-one) (ap (λ rest. made ++ rest) (ap (λ d. d ∷ shifted (drop (suc i) offsets) (drop (suc i) left)) is ∙ sym (split offsets left i lt)) ∙ h.value);
 }
 
-shifted_length : (o l : List ℤ) → length (shifted o l) ≡ length o
+pub shifted_length : (o l : List ℤ) → length (shifted o l) ≡ length o
 shifted_length [] l = refl
 shifted_length (d ∷ ds) [] = ap suc (shifted_length ds [])
 shifted_length (d ∷ ds) (e ∷ es) = ap suc (shifted_length ds es)

@@ -28,6 +28,8 @@ use Rattle.soda_parse.proofs.Uses.{FineCells, Fits, fine_first, fine_second, goo
 use Rattle.soda_formula.specs.declared.statement.ParamLine.{ParamLine}
 use Rattle.soda_formula.specs.declared.statement.Size.{Size}
 use Rattle.soda_words.specs.declared.token.Word.{Word}
+use Rattle.std.proofs.lemmas.Bool.{ltb-true}
+use Rattle.soda_print.proofs.CallerLemmas.{count_there}
 
 not_past : (n : ℕ) → nat_lt 65536 n ≡ false → n ≤ 65536
 not_past n e = grind (arith, nat_tests, e)
@@ -44,7 +46,7 @@ one_small b (k ∷ ks) e =
     let here = none_here (λ (m : ℕ). nat_lt 65536 m) (b + 1 * k) (map (λ m. b + m) (partial_products (1 * k) ks)) e in
     subst (λ (m : ℕ). b + m ≤ 65536) (ap (λ (m : ℕ). m * size ks) (one-mul k)) (sum_small b (1 * k) ks (not_past (b + 1 * k) here.0) here.1)
 
-count_cons : (q : PlainParam) (qs : List PlainParam) → value_count (q ∷ qs) ≡ size q.sizes + value_count qs
+pub count_cons : (q : PlainParam) (qs : List PlainParam) → value_count (q ∷ qs) ≡ size q.sizes + value_count qs
 count_cons q qs = sum_by-cons (λ (r : PlainParam). size r.sizes) q qs
 
 -- all params together have few values
@@ -55,14 +57,6 @@ values_small b (q ∷ qs) le e =
     let rest = values_small (b + size q.sizes) qs first (none_second (first_past 65536 (map (λ n. b + n) (param_products q.sizes))) (values_past (b + size q.sizes) qs) e) in
     omega (arith, rest, count_cons q qs)
 
-member_small : (qs : List PlainParam) (k : ℕ) (q : PlainParam) → slice_get qs k ≡ Some q → size q.sizes ≤ value_count qs
-member_small [] k q e = cc
-member_small (r ∷ qs) zero q e = let same : r ≡ q = cc in omega (arith, ap (λ (s : PlainParam). size s.sizes) same, count_cons r qs)
-member_small (r ∷ qs) (suc k) q e = omega (arith, member_small qs k q e, count_cons r qs)
-
-below : (i n : ℕ) → nat_lt i n ≡ true → i < n
-below i n e = grind (arith, nat_tests, e)
-
 in_grid : (i j m n : ℕ) → i < m → j < n → i * n + j < m * n
 in_grid i j m n lt mt = omega (arith, mul-add-lt i n j m lt mt)
 
@@ -71,14 +65,14 @@ place_within : (sizes : List Size) (is : List ℕ) → are_below is sizes ≡ tr
 place_within [] is e le = omega arith
 place_within (s ∷ []) [] e le = cc
 place_within (s ∷ []) (i ∷ []) e le =
-    let lt = below i s.value (both_of (nat_lt i s.value) true e).0 in omega (arith, lt, mul-one s.value)
+    let lt = ltb-true i s.value (both_of (nat_lt i s.value) true e).0 in omega (arith, lt, mul-one s.value)
 place_within (s ∷ []) (i ∷ j ∷ is) e le = let h : false ≡ true = (both_of (nat_lt i s.value) false e).1 in cc
 place_within (s ∷ t ∷ []) [] e le = cc
 place_within (s ∷ t ∷ []) (i ∷ []) e le = let h : false ≡ true = (both_of (nat_lt i s.value) false e).1 in cc
 place_within (s ∷ t ∷ []) (i ∷ j ∷ is) e le =
     let a = both_of (nat_lt i s.value) (are_below (j ∷ is) (t ∷ [])) e in
     let b = both_of (nat_lt j t.value) (are_below is []) a.1 in
-    subst (λ (m : ℕ). i * t.value + j < s.value * m) (sym (mul-one t.value)) (in_grid i j s.value t.value (below i s.value a.0) (below j t.value b.0))
+    subst (λ (m : ℕ). i * t.value + j < s.value * m) (sym (mul-one t.value)) (in_grid i j s.value t.value (ltb-true i s.value a.0) (ltb-true j t.value b.0))
 place_within (s ∷ t ∷ u ∷ ss) is e le = absurd (omega arith)
 
 small_place : (n m : ℕ) → n < m → m ≤ 65536 → place_or_0 n ≡ n
@@ -104,7 +98,7 @@ good_value o p cells w is (Some q) h found e =
     let mine : slice_get p.params k ≡ Some (param_of q) = ap (λ (qs : List PlainParam). slice_get qs k) h.same ∙ (slice_get-map param_of o.params k ∙ ap (option_map param_of) there) in
     let below_all : are_below is q.sizes ≡ true = false_not (are_below is q.sizes) e in
     let within = place_within q.sizes is below_all (h.two k q there) in
-    let few : size (map (λ s. s.value) q.sizes) ≤ 65536 = omega (arith, member_small p.params k (param_of q) mine, h.few) in
+    let few : size (map (λ s. s.value) q.sizes) ≤ 65536 = omega (arith, count_there p.params k (param_of q) mine, h.few) in
     let place : place_of q.sizes is ≡ place_at q.sizes is = rw below_all (small_place (place_at q.sizes is) (size (map (λ s. s.value) q.sizes)) within few) in
     let good : is_good_place p k (place_of q.sizes is) ≡ true = good_at p k (place_of q.sizes is) (param_of q) mine (rw place within) in
     ap (λ (f : Formula). each_use cells (is_good_place p) f) (ap (λ (a : Option ℕ). value_formula a (find test o.params) is) placed ∙ ap (λ (b : Option ParamLine). value_formula (Some k) b is) found) ∙ good

@@ -21,9 +21,12 @@ use Rattle.soda_formula.specs.declared.statement.Size.{Size}
 use Rattle.soda_words.specs.declared.token.Word.{Word}
 use Rattle.soda_words.specs.Names.{is_word}
 use Rattle.soda_parse.proofs.SameTypes.{both_of}
-use Rattle.soda_parse.proofs.Lookups.{Fresh, fails_there, place_first, place_next, word_self, word_sym}
+use Rattle.soda_parse.proofs.Lookups.{Fresh, fails_there, place_first, place_next}
 use Rattle.soda_parse.proofs.Back.{IsBack, IsTyped, param_lines}
 use Rattle.soda_parse.proofs.Statements.{param_on, word, written_value, zeros}
+use Rattle.std.proofs.lemmas.Bool.{ltb-true}
+use Rattle.soda_parse.proofs.Truths.{le_true, lt_true}
+use Rattle.soda_words.proofs.CallerLemmas.{is_word-turned, is_word-itself}
 
 -- what stands under a param's name
 pub record IsParamAt (params : List ParamLine) (k : ℕ) (q : PlainParam) (w : Word) : Type 0 where
@@ -36,7 +39,7 @@ same_param a b e = cc
 
 found_first : (line : ℕ) (r q : PlainParam) (qs : List PlainParam) (w : Word) → r ≡ q → w.text ≡ q.name → IsParamAt (param_lines line (r ∷ qs)) 0 q w
 found_first line r q qs w e n =
-    let same : is_word w.text r.name ≡ true = ap (λ (v : List ℕ). is_word v r.name) (n ∙ ap (λ (s : PlainParam). s.name) (sym e)) ∙ word_self r.name in
+    let same : is_word w.text r.name ≡ true = ap (λ (v : List ℕ). is_word v r.name) (n ∙ ap (λ (s : PlainParam). s.name) (sym e)) ∙ is_word-itself r.name in
     record {
       line = line;
       place = place_first (λ (s : ParamLine). is_same w s.name) (param_on line r) (param_lines (suc line) qs) same;
@@ -60,7 +63,7 @@ param_at line [] k q w f e n = cc
 param_at line (r ∷ qs) zero q w f e n = found_first line r q qs w (same_param r q e) n
 param_at line (r ∷ qs) (suc k) q w f e n =
     let other : is_word r.name q.name ≡ false = fails_there (is_word r.name) (map (λ (s : PlainParam). s.name) qs) k q.name f.1 (name_mapped qs k q e) in
-    let apart : is_word w.text r.name ≡ false = ap (λ (v : List ℕ). is_word v r.name) n ∙ (word_sym q.name r.name ∙ other) in
+    let apart : is_word w.text r.name ≡ false = ap (λ (v : List ℕ). is_word v r.name) n ∙ (is_word-turned q.name r.name ∙ other) in
     found_next line r q qs k w apart (param_at (suc line) qs k q w f.2 e n)
 
 -- the sizes of a line
@@ -71,12 +74,6 @@ sizes_on line ns = map (λ n. record { line = line; value = n }) ns
 pub record IsIndexed (sizes : List Size) (is : List ℕ) (i : ℕ) : Type 0 where
   pub below : are_below is sizes ≡ true
   pub place : place_at sizes is ≡ i
-
-lt_true : (a b : ℕ) → a < b → nat_lt a b ≡ true
-lt_true a b h = grind (arith, nat_tests)
-
-true_lt : (a b : ℕ) → nat_lt a b ≡ true → a < b
-true_lt a b h = grind (arith, nat_tests)
 
 one_index : (line n i : ℕ) → i < n * 1 → IsIndexed (sizes_on line (n ∷ [])) (i ∷ []) i
 one_index line n i h = record { below = rw (lt_true i n (omega arith)) refl; place = refl }
@@ -135,10 +132,7 @@ pub cell_there : (p : PlainProgram) (k : ℕ) (ds : List ℤ) → is_good_cell p
 cell_there p k ds h =
     let a = both_of (nat_lt k (length p.tensors) && length ds == suc (length p.extents)) (is_near ds) h in
     let b = both_of (nat_lt k (length p.tensors)) (length ds == suc (length p.extents)) a.0 in
-    record { within = true_lt k (length p.tensors) b.0; many = grind (arith, nat_tests, b.1); near = a.1 }
-
-le_true : (a b : ℕ) → a ≤ b → nat_le a b ≡ true
-le_true a b h = grind (arith, nat_tests)
+    record { within = ltb-true k (length p.tensors) b.0; many = grind (arith, nat_tests, b.1); near = a.1 }
 
 cell_back : (o : Outline) (p : PlainProgram) (line k : ℕ) (ds : List ℤ) → Knows o p → IsCellThere p k ds → cell_formula (tensor_number o (word line (tensor_name p k))) (offset_or_none (shifted ds (zeros p))) ≡ read k ds
 cell_back o p line k ds h there =
@@ -149,7 +143,7 @@ cell_back o p line k ds h there =
 place_back : (o : Outline) (p : PlainProgram) (line k i : ℕ) (r : Option PlainParam) → Knows o p → slice_get p.params k ≡ r → (elim r as (λ v. Bool) [ None ↦ false | Some q ↦ nat_lt i (size q.sizes) ]) ≡ true → meant o (zeros p) (written_value line i r) ≡ value_of k i
 place_back o p line k i None h e u = cc
 place_back o p line k i (Some q) h e u =
-    let within : i < size q.sizes = true_lt i (size q.sizes) u in
+    let within : i < size q.sizes = ltb-true i (size q.sizes) u in
     let few : size q.sizes ≤ 65536 = h.few k q e in
     value_back o line k i q (h.params line k q e) (h.two k q e) within (omega arith)
 

@@ -24,6 +24,8 @@ use Rattle.soda_parse.proofs.Lookups.{Fresh, fresh, fresh_back, fresh_front, pla
 use Rattle.soda_parse.proofs.ReadBack.{IsParamAt, Knows, formula_back, param_at}
 use Rattle.soda_parse.proofs.Statements.{AreOrdered, ordered, statements_of, tile_of, word}
 use Rattle.soda_parse.proofs.TypeWords.{typed}
+use Rattle.std.proofs.lemmas.Option.{same_Some}
+use Rattle.std.proofs.lemmas.Bool.{leb-true}
 
 -- the outline of a program's statements
 abbrev pub outline : PlainProgram → Outline
@@ -70,22 +72,16 @@ valued p v line k q e =
     let f : Fresh (map (λ (r : PlainParam). r.name) p.params) = fresh_front (map (λ (r : PlainParam). r.name) p.params) (map (λ (t : PlainTensor). t.name) p.tensors) (names_fresh p v) in
     subst (λ (ls : List ParamLine). IsParamAt ls k q (word line q.name)) (sym (params_are p v)) (param_at 6 p.params k q (word line q.name) f e refl)
 
-same_value : {A : Type 0} (a b : A) → Some a ≡ Some b → a ≡ b
-same_value a b e = cc
-
 -- what passes for all passes for the one at a place
 pub all_there : {A : Type 0} (test : A → Bool) (xs : List A) (k : ℕ) (x : A) → list_all test xs ≡ true → slice_get xs k ≡ Some x → test x ≡ true
 all_there test [] k x h e = cc
-all_there test (y ∷ xs) zero x h e = ap test (sym (same_value y x e)) ∙ (both_of (test y) (list_all test xs) h).0
+all_there test (y ∷ xs) zero x h e = ap test (sym (same_Some y x e)) ∙ (both_of (test y) (list_all test xs) h).0
 all_there test (y ∷ xs) (suc k) x h e = all_there test xs k x (both_of (test y) (list_all test xs) h).1 e
-
-true_le : (a b : ℕ) → nat_le a b ≡ true → a ≤ b
-true_le a b h = grind (arith, nat_tests)
 
 two_sizes : (p : PlainProgram) → IsValid p → (k : ℕ) (q : PlainParam) → slice_get p.params k ≡ Some q → length q.sizes ≤ 2
 two_sizes p v k q e =
     let good : is_good_param q ≡ true = all_there is_good_param p.params k q v.sound.parts.params e in
-    true_le (length q.sizes) 2 (both_of (nat_le (length q.sizes) 2) _ good).0
+    leb-true (length q.sizes) 2 (both_of (nat_le (length q.sizes) 2) _ good).0
 
 few_values : (p : PlainProgram) → IsValid p → (k : ℕ) (q : PlainParam) → slice_get p.params k ≡ Some q → size q.sizes ≤ 65536
 few_values p v k q e = omega (arith, count_there p.params k q e, v.sound.limits.few_values)

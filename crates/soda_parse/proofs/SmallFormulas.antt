@@ -15,7 +15,7 @@ use Rattle.soda_ir.specs.Uses.{each_use, is_good_cell, is_good_place}
 use Rattle.soda_ir.specs.Written.{left_pairs, most_open, pairs_round, right_pairs, token_count}
 use Rattle.soda_print.specs.Canonical.{indexes, tensor_name, type_text}
 use Rattle.soda_print.specs.Sized.{IsSized}
-use Rattle.soda_print.proofs.CallerLemmas.{call_tokens, component_tokens, formula_tokens, index_tokens, listed_tokens, pair_tokens, parted_tokens}
+use Rattle.soda_print.proofs.CallerLemmas.{call_tokens, component_tokens, formula_tokens, index_tokens, listed_tokens, pair_tokens, parted_tokens, few_indexes}
 use Rattle.soda_syntax.proofs.CallerLemmas.{IsSmallFormula}
 use Rattle.soda_words.specs.Names.{is_cast_word, is_reserved}
 use Rattle.soda_words.specs.declared.symbol.Symbol.{Symbol}
@@ -26,137 +26,9 @@ use Rattle.soda_words.specs.declared.token.Token.TheVariants.{Name, Sign}
 use Rattle.soda_parse.proofs.ReadBack.{cell_there}
 use Rattle.soda_parse.proofs.SameTypes.{both_of}
 use Rattle.soda_parse.proofs.WrittenFormulas.{IsFree, cast_word, numbers, offsets, on, on_both}
-
--- behind a name that offsets may follow, what comes counts as it does elsewhere
-abbrev Closed : List Placed → Type 0
-Closed rest = counted_tokens_from behind_name rest ≡ counted_tokens_from outside rest
-
--- the most brackets that are open at once, where so many are open before
-abbrev peak : ℕ → List Placed → ℕ
-peak k [] = k
-peak k (t ∷ ts) = max k (peak (open_behind k t.token) ts)
-
-peak_least : (k : ℕ) (ts : List Placed) → k ≤ peak k ts
-peak_least k [] = omega arith
-peak_least k (t ∷ ts) = omega arith
-
--- at most n tokens count, and at most m brackets are open at once, wherever these tokens stand
-record Costs (n m : ℕ) (ts : List Placed) : Type 0 where
-  pub counts : (rest : List Placed) → Closed rest → counted_tokens_from outside (ts ++ rest) ≤ n + counted_tokens_from outside rest
-  pub opens : (k : ℕ) (rest : List Placed) → peak k (ts ++ rest) ≤ max (m + k) (peak k rest)
-
-costs_more : (n m a b : ℕ) (ts : List Placed) → Costs n m ts → n ≤ a → m ≤ b → Costs a b ts
-costs_more n m a b ts t le most = record {
-  counts = λ rest closed. omega (arith, t.counts rest closed);
-  opens = λ k rest. omega (arith, t.opens k rest);
-}
-
--- a symbol that is no bracket
-record IsPassing (s : Symbol) : Type 0 where
-  pub level : (k : ℕ) → open_behind k (Sign s) ≡ k
-  pub behind : place_behind behind_name (Sign s) ≡ outside
-
-passes : (s : Symbol) → ((k : ℕ) → open_behind k (Sign s) ≡ k) → place_behind behind_name (Sign s) ≡ outside → IsPassing s
-passes s h e = record { level = h; behind = e }
-
-passing_closed : (line : ℕ) (s : Symbol) (rest : List Placed) → IsPassing s → Closed (symbol_on line s ∷ rest)
-passing_closed line s rest pass = ap (λ (q : Place). 1 + counted_tokens_from q rest) pass.behind
-
-passing_peak : (line : ℕ) (s : Symbol) (k : ℕ) (rest : List Placed) → IsPassing s → peak k (symbol_on line s ∷ rest) ≤ peak k rest
-passing_peak line s k rest pass =
-    let same : peak (open_behind k (Sign s)) rest ≡ peak k rest = ap (λ (n : ℕ). peak n rest) (pass.level k) in
-    omega (arith, peak_least k rest)
-
-costs_joined : (n m a b line : ℕ) (s : Symbol) (ts us : List Placed) → IsPassing s → Costs n m ts → Costs a b us → Costs (n + 1 + a) (max m b) (ts ++ symbol_on line s ∷ us)
-costs_joined n m a b line s ts us pass t u = record {
-  counts = λ rest closed. rw (append_assoc ts (symbol_on line s ∷ us) rest) (omega (arith, t.counts (symbol_on line s ∷ (us ++ rest)) (passing_closed line s (us ++ rest) pass), u.counts rest closed));
-  opens = λ k rest. rw (append_assoc ts (symbol_on line s ∷ us) rest) (omega (arith, t.opens k (symbol_on line s ∷ (us ++ rest)), passing_peak line s k (us ++ rest) pass, u.opens k rest));
-}
-
-costs_round : (n m opened closed : ℕ) (ts : List Placed) → Costs n m ts → Costs (n + 2) (m + 1) (symbol_on opened OpenRound ∷ (ts ++ symbol_on closed CloseRound ∷ []))
-costs_round n m opened closed ts t = record {
-  counts = λ rest shut. rw (append_assoc ts (symbol_on closed CloseRound ∷ []) rest) (omega (arith, t.counts (symbol_on closed CloseRound ∷ rest) refl));
-  opens = λ k rest. let less : suc k - 1 ≡ k = omega arith in let same : peak (suc k - 1) rest ≡ peak k rest = ap (λ (i : ℕ). peak i rest) less in rw (append_assoc ts (symbol_on closed CloseRound ∷ []) rest) (omega (arith, same, t.opens (suc k) (symbol_on closed CloseRound ∷ rest)));
-}
-
-costs_sign : (n m line : ℕ) (s : Symbol) (ts : List Placed) → IsPassing s → Costs n m ts → Costs (1 + n) m (symbol_on line s ∷ ts)
-costs_sign n m line s ts pass t = record {
-  counts = λ rest closed. omega (arith, t.counts rest closed);
-  opens = λ k rest. omega (arith, t.opens k rest, passing_peak line s k (ts ++ rest) pass);
-}
-
--- behind a reserved word the place is outside
-reserved_counts : (line : ℕ) (text : List ℕ) (ts : List Placed) → is_reserved text ≡ true → counted_tokens_from outside (name_on line text ∷ ts) ≡ 1 + counted_tokens_from outside ts
-reserved_counts line text ts e = ap (λ (b : Bool). 1 + counted_tokens_from (if b then outside else behind_name) ts) e
-
-free_counts : (line : ℕ) (text : List ℕ) (ts : List Placed) → is_reserved text ≡ false → counted_tokens_from outside (name_on line text ∷ ts) ≡ 1 + counted_tokens_from behind_name ts
-free_counts line text ts e = ap (λ (b : Bool). 1 + counted_tokens_from (if b then outside else behind_name) ts) e
-
-costs_named : (n m line : ℕ) (text : List ℕ) (ts : List Placed) → is_reserved text ≡ true → Costs n m ts → Costs (1 + n) m (name_on line text ∷ ts)
-costs_named n m line text ts e t = record {
-  counts = λ rest closed. omega (arith, reserved_counts line text (ts ++ rest) e, t.counts rest closed);
-  opens = λ k rest. omega (arith, t.opens k rest, peak_least k rest);
-}
-
--- offsets
-component_counts : (ts : List Placed) (d : ℤ) (rest : List Placed) → IsComponent ts d → counted_tokens_from in_offsets (ts ++ rest) ≤ 1 + counted_tokens_from in_offsets rest
-component_counts ts d rest (ahead line n) = omega arith
-component_counts ts d rest (back minus line n) = omega arith
-
-component_peak : (ts : List Placed) (d : ℤ) (k : ℕ) (rest : List Placed) → IsComponent ts d → peak k (ts ++ rest) ≤ peak k rest
-component_peak ts d k rest (ahead line n) = omega (arith, peak_least k rest)
-component_peak ts d k rest (back minus line n) = omega (arith, peak_least k rest)
-
-components_count : (ts : List Placed) (ds : List ℤ) (rest : List Placed) → AreParted IsComponent ts ds → suc (counted_tokens_from in_offsets (ts ++ rest)) ≤ 2 * length ds + counted_tokens_from in_offsets rest
-components_count ts ds rest (last_item {ts = us} {a = d} item) = omega (arith, component_counts us d rest item)
-components_count ts ds rest (item_before {ts = us} {us = vs} {a = d} {others = es} line item more) =
-    rw (append_assoc us (symbol_on line Comma ∷ vs) rest) (omega (arith, component_counts us d (symbol_on line Comma ∷ (vs ++ rest)) item, components_count vs es rest more))
-
-components_peak : (ts : List Placed) (ds : List ℤ) (k : ℕ) (rest : List Placed) → AreParted IsComponent ts ds → peak k (ts ++ rest) ≤ peak k rest
-components_peak ts ds k rest (last_item {ts = us} {a = d} item) = component_peak us d k rest item
-components_peak ts ds k rest (item_before {ts = us} {us = vs} {a = d} {others = es} line item more) =
-    rw (append_assoc us (symbol_on line Comma ∷ vs) rest) (omega (arith, component_peak us d k (symbol_on line Comma ∷ (vs ++ rest)) item, components_peak vs es k rest more, peak_least k rest))
-
-costs_round_cell : (line opened closed : ℕ) (text : List ℕ) (ds : List ℤ) (inside : List Placed) → is_reserved text ≡ false → AreParted IsComponent inside ds → Costs (2 + 2 * length ds) 1 (name_on line text ∷ symbol_on opened OpenRound ∷ (inside ++ symbol_on closed CloseRound ∷ []))
-costs_round_cell line opened closed text ds inside e are = record {
-  counts = λ rest shut. rw (append_assoc inside (symbol_on closed CloseRound ∷ []) rest) (omega (arith, free_counts line text (symbol_on opened OpenRound ∷ (inside ++ symbol_on closed CloseRound ∷ rest)) e, components_count inside ds (symbol_on closed CloseRound ∷ rest) are));
-  opens = λ k rest. let less : suc k - 1 ≡ k = omega arith in let same : peak (suc k - 1) rest ≡ peak k rest = ap (λ (i : ℕ). peak i rest) less in rw (append_assoc inside (symbol_on closed CloseRound ∷ []) rest) (omega (arith, same, components_peak inside ds (suc k) (symbol_on closed CloseRound ∷ rest) are));
-}
-
-costs_cell : (line : ℕ) (text : List ℕ) (ts : List Placed) (ds : List ℤ) → is_reserved text ≡ false → AreOffsets ts ds → Costs (2 + 2 * length ds) 1 (name_on line text ∷ ts)
-costs_cell line text ts ds e are =
-    subst (λ (us : List Placed). Costs (2 + 2 * length ds) 1 (name_on line text ∷ us)) (sym are.is) (costs_round_cell line are.opened are.closed text ds are.inside e are.item)
-
--- indexes
-abbrev one_if_some : ℕ → ℕ
-one_if_some n = if n == 0 then 0 else 1
-
-indexes_count : (ts : List Placed) (ks : List ℕ) (rest : List Placed) → AreIndexes ts ks → counted_tokens_from outside (ts ++ rest) ≤ 3 * length ks + counted_tokens_from outside rest
-indexes_count ts ks rest no_index = omega arith
-indexes_count ts ks rest (index_before {ts = us} {indexes = js} opened line n closed more) = omega (arith, indexes_count us js rest more)
-
-named_count : (ts : List Placed) (ks : List ℕ) (rest : List Placed) → Closed rest → AreIndexes ts ks → counted_tokens_from behind_name (ts ++ rest) ≤ 3 * length ks + counted_tokens_from outside rest
-named_count ts ks rest closed no_index = omega arith
-named_count ts ks rest closed (index_before {ts = us} {indexes = js} opened line n shut more) = omega (arith, indexes_count us js rest more)
-
-indexes_peak : (ts : List Placed) (ks : List ℕ) (k : ℕ) (rest : List Placed) → AreIndexes ts ks → peak k (ts ++ rest) ≤ max (1 + k) (peak k rest)
-indexes_peak ts ks k rest no_index = omega arith
-indexes_peak ts ks k rest (index_before {ts = us} {indexes = js} opened line n closed more) =
-    let less : suc k - 1 ≡ k = omega arith in
-    let same : peak (suc k - 1) (us ++ rest) ≡ peak k (us ++ rest) = ap (λ (i : ℕ). peak i (us ++ rest)) less in
-    omega (arith, same, indexes_peak us js k rest more)
-
-indexes_open : (ts : List Placed) (ks : List ℕ) (k : ℕ) (rest : List Placed) → AreIndexes ts ks → peak k (ts ++ rest) ≤ max (one_if_some (length ks) + k) (peak k rest)
-indexes_open ts ks k rest no_index = omega arith
-indexes_open ts ks k rest (index_before {ts = us} {indexes = js} opened line n closed more) =
-    let one : one_if_some (suc (length js)) ≡ 1 = grind (arith, nat_tests) in
-    omega (arith, one, indexes_peak _ (n ∷ js) k rest (index_before opened line n closed more))
-
-costs_value : (line : ℕ) (text : List ℕ) (ts : List Placed) (ks : List ℕ) → is_reserved text ≡ false → AreIndexes ts ks → Costs (1 + 3 * length ks) (one_if_some (length ks)) (name_on line text ∷ ts)
-costs_value line text ts ks e are = record {
-  counts = λ rest closed. omega (arith, free_counts line text (ts ++ rest) e, named_count ts ks rest closed are);
-  opens = λ k rest. omega (arith, indexes_open ts ks k rest are, peak_least k rest);
-}
+use Rattle.std.proofs.lemmas.Bool.{leb-true}
+use Rattle.soda_parse.proofs.TokenCounts.{Closed, peak, peak_least, IsPassing, passes, passing_closed, reserved_counts, free_counts, one_if_some, comma_passes, cast_reserved}
+use Rattle.soda_parse.proofs.WrittenCosts.{Costs, costs_more, passing_peak, costs_joined, costs_round, costs_sign, costs_named, component_counts, component_peak, components_count, components_peak, costs_round_cell, costs_cell, indexes_count, named_count, indexes_peak, indexes_open, costs_value}
 
 -- operands and operators
 pair_costs : (b : Bool) (n m line : ℕ) (toks : List Token) → Costs n m (on line toks) → Costs (2 * (if b then 1 else 0) + n) ((if b then 1 else 0) + m) (on line (pair_tokens (if b then 1 else 0) toks))
@@ -172,9 +44,6 @@ infix_costs line l r n m a b s ts us pass t u =
 
 last_costs : (n m line : ℕ) (toks : List Token) → Costs n m (on line toks) → Costs n m (on line (toks ++ []))
 last_costs n m line toks t = subst (λ (us : List Token). Costs n m (on line us)) (sym (append-nil toks)) t
-
-comma_passes : IsPassing Comma
-comma_passes = passes Comma (λ k. refl) refl
 
 comma_costs : (n m a b line : ℕ) (ts us : List Token) → Costs n m (on line ts) → Costs a b (on line us) → Costs (n + 1 + a) (max m b) (on line (ts ++ (Sign Comma ∷ us)))
 comma_costs n m a b line ts us t u =
@@ -236,15 +105,6 @@ unary_costs p line Not f t = prefix_costs p line Bang f (λ k. refl) refl t
 unary_costs p line Abs f t =
     costs_more _ _ (token_count p (unary Abs f)) (most_open p (unary Abs f)) _ (one_costs p line (codes "abs") f refl t) (omega arith) (omega arith)
 
-few_by : (z : Bool) (i j n : ℕ) → 2 ≤ n → length (if z then [] else i ∷ j ∷ []) ≤ n
-few_by true i j n h = omega arith
-few_by false i j n h = omega arith
-
-indexes_few : (ns : List ℕ) (i : ℕ) → length (indexes ns i) ≤ length ns
-indexes_few [] i = omega arith
-indexes_few (n ∷ []) i = omega arith
-indexes_few (n ∷ m ∷ ns) i = few_by (m == 0) _ _ (length (n ∷ m ∷ ns)) (omega arith)
-
 one_more : (a b : ℕ) → a ≤ b → one_if_some a ≤ one_if_some b
 one_more a b h = grind (arith, nat_tests)
 
@@ -257,14 +117,11 @@ tokens_by i r = elim r [ None ↦ [] | Some q ↦ Name q.name ∷ index_tokens (
 value_costs : (p : PlainProgram) (line k i : ℕ) (r : Option PlainParam) → IsFree p → slice_get p.params k ≡ r → (elim r as (λ v. Bool) [ None ↦ false | Some q ↦ nat_lt i (size q.sizes) ]) ≡ true → Costs (1 + 3 * count_by r) (one_if_some (count_by r)) (on line (tokens_by i r))
 value_costs p line k i None h e u = cc
 value_costs p line k i (Some q) h e u =
-    let few = indexes_few q.sizes i in
+    let few = few_indexes q.sizes i in
     costs_more _ _ _ _ _ (costs_value line q.name (on line (index_tokens (indexes q.sizes i))) (indexes q.sizes i) (h.params k q e) (numbers line (indexes q.sizes i))) (omega arith) (one_more (length (indexes q.sizes i)) (length q.sizes) few)
 
 number_costs : (line n : ℕ) → Costs 1 0 (number_on line n ∷ [])
 number_costs line n = record { counts = λ rest closed. omega arith; opens = λ k rest. omega (arith, peak_least k rest) }
-
-cast_reserved : (text : List ℕ) → is_cast_word text ≡ true → is_reserved text ≡ true
-cast_reserved text e = rw e refl
 
 formula_costs : (p : PlainProgram) (line : ℕ) (f : Formula) → IsFree p → each_use (is_good_cell p) (is_good_place p) f ≡ true → IsSized f → CostsFormula p line f
 formula_costs p line (number n) h u s = number_costs line n
@@ -295,9 +152,6 @@ front_opens : (k : ℕ) (ts rest : List Placed) → open_brackets_from k ts ≤ 
 front_opens k [] rest = peak_least k rest
 front_opens k (t ∷ ts) rest = omega (arith, front_opens (open_behind k t.token) ts rest)
 
-true_le : (a b : ℕ) → nat_le a b ≡ true → a ≤ b
-true_le a b h = grind (arith, nat_tests)
-
 not_large : (n m : ℕ) (ts : List Placed) → Costs n m ts → n ≤ 1500 → m ≤ 64 → IsSmallFormula ts
 not_large n m ts t few low p y e (inl over) =
     let all : peak 0 (p ++ y) ≤ 64 = subst (λ (us : List Placed). peak 0 us ≤ 64) (append-nil ts ∙ e) (omega (arith, t.opens 0 [])) in
@@ -310,4 +164,4 @@ not_large n m ts t few low p y e (inr over) =
 pub small_tokens : (p : PlainProgram) (line : ℕ) (f : Formula) → IsFree p → each_use (is_good_cell p) (is_good_place p) f ≡ true → IsSized f → (nat_le (token_count p f) 1500 && nat_le (most_open p f) 64) ≡ true → IsSmallFormula (on line (formula_tokens p f))
 small_tokens p line f h u s small =
     let both = both_of (nat_le (token_count p f) 1500) (nat_le (most_open p f) 64) small in
-    not_large (token_count p f) (most_open p f) (on line (formula_tokens p f)) (formula_costs p line f h u s) (true_le _ _ both.0) (true_le _ _ both.1)
+    not_large (token_count p f) (most_open p f) (on line (formula_tokens p f)) (formula_costs p line f h u s) (leb-true _ _ both.0) (leb-true _ _ both.1)

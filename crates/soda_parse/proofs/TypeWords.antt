@@ -11,9 +11,7 @@ use Rattle.soda_print.proofs.CallerLemmas.{number_is, own}
 use Rattle.soda_words.specs.Names.{behind}
 use Rattle.soda_words.specs.Tokens.{or_else, value_behind}
 use Rattle.soda_parse.proofs.Back.{IsTyped}
-
-le_true : (a b : ℕ) → a ≤ b → nat_le a b ≡ true
-le_true a b h = grind (arith, nat_tests)
+use Rattle.soda_parse.proofs.Truths.{le_true}
 
 width_back : (least n : ℕ) → least ≤ n → n ≤ 64 → width_of least (decimal n) ≡ Some n
 width_back least n h k =

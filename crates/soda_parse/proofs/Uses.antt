@@ -24,6 +24,8 @@ use Rattle.soda_parse.proofs.SameTypes.{both_of}
 use Rattle.soda_parse.proofs.Tiling.{none_here, false_not}
 use Rattle.soda_words.specs.Tokens.{or_else}
 use Rattle.soda_words.specs.declared.token.Word.{Word}
+use Rattle.std.proofs.Math.Bool.{or-true}
+use Rattle.soda_parse.proofs.Offsets.{shifted_length}
 
 -- the cells of a formula behind a left side are fine
 pub record FineCells (o : Outline) (dims : ℕ) (left : List ℤ) (sites : List Site) : Type 0 where
@@ -88,17 +90,13 @@ no_cell test None q is = refl
 no_cell test (Some k) None is = refl
 no_cell test (Some k) (Some q) is = refl
 
-or_true : (b : Bool) → (b || true) ≡ true
-or_true true = refl
-or_true false = refl
-
 none_there : {A : Type 0} (test : A → Bool) (k : ℕ) → position test [] ≡ Some k → ⊥
 none_there test k e = cc
 
 any_at : {A : Type 0} (test : A → Bool) (xs : List A) (k : ℕ) (d : A) → k < length xs → test (get_or xs k d) ≡ true → list_any test xs ≡ true
 any_at test [] k d lt e = absurd (omega arith)
 any_at test (x ∷ xs) zero d lt e = rw e refl
-any_at test (x ∷ xs) (suc k) d lt e = rw (any_at test xs k d (omega arith) e) (or_true (test x))
+any_at test (x ∷ xs) (suc k) d lt e = rw (any_at test xs k d (omega arith) e) (or-true (test x))
 
 -- a name at a place of a list is one of the list
 found_any : {A : Type 0} (test : A → Bool) (xs : List A) (k : ℕ) → position test xs ≡ Some k → (k < length xs) × (list_any test xs ≡ true)
@@ -115,7 +113,7 @@ numbered o w k (Some i) b e f is =
 numbered o w k None (Some n) e f is =
     let h = found_any (λ d. is_same w d.name) o.defined n f in
     let same : length o.inputs + n ≡ k = cc in
-    (omega (arith, h.0, same), rw h.1 (or_true (list_any (λ i. is_same w i.name) o.inputs)))
+    (omega (arith, h.0, same), rw h.1 (or-true (list_any (λ i. is_same w i.name) o.inputs)))
 numbered o w k None None e f is = cc
 
 -- a number of a tensor is below their number, and the name is a tensor's
@@ -129,11 +127,6 @@ near_all (d ∷ ds) e =
     let here = none_here (λ (n : ℕ). nat_lt 32768 n) (unsigned_abs d) (map unsigned_abs ds) e in
     let small : nat_le (unsigned_abs d) 32768 ≡ true = grind (arith, nat_tests, here.0) in
     rw (small, near_all ds here.1) refl
-
-shifted_length : (o l : List ℤ) → length (shifted o l) ≡ length o
-shifted_length [] l = refl
-shifted_length (d ∷ ds) [] = ap suc (shifted_length ds [])
-shifted_length (d ∷ ds) (e ∷ es) = ap suc (shifted_length ds es)
 
 counted_by : (o : Outline) (dims : ℕ) (w : Word) (offsets : List ℤ) → is_tensor o w ≡ true → has_wrong_dims o dims (Cell w offsets) ≡ false → length offsets ≡ dims
 counted_by o dims w offsets t e =

@@ -33,6 +33,8 @@ use Rattle.soda_parse.proofs.SameTypes.{both_of}
 use Rattle.soda_parse.proofs.SmallFormulas.{small_tokens}
 use Rattle.soda_parse.proofs.Statements.{AreDefined, none_defined, a_local, an_output, AreOrdered, no_input, an_input, declared_from, formula_on, input_on, param_on, statements_of, tensors_from, word, zeros}
 use Rattle.soda_parse.proofs.WrittenFormulas.{AreItems, IsFree, in_round, is_formula, on, on_both}
+use Rattle.std.proofs.lemmas.Bool.{not-true, leb-true}
+use Rattle.std.proofs.lemmas.Option.{same_Some}
 
 not_dram : (s : Bool) (n : ℕ) → is_word (codes "dram") ((if s then codes "int" else codes "uint") ++ decimal n) ≡ false
 not_dram true n = refl
@@ -51,13 +53,10 @@ length_sizes : (line : ℕ) (ns : List ℕ) → length (sizes_on line ns) ≡ le
 length_sizes line [] = refl
 length_sizes line (n ∷ ns) = ap suc (length_sizes line ns)
 
-true_le : (a b : ℕ) → nat_le a b ≡ true → a ≤ b
-true_le a b h = grind (arith, nat_tests)
-
 -- the line of a param
 param_line_is : (line : ℕ) (q : PlainParam) → is_good_param q ≡ true → IsStatement (on line (param_tokens q)) (param (param_on line q))
 param_line_is line q g =
-    let few : length q.sizes ≤ 2 = true_le (length q.sizes) 2 (both_of (nat_le (length q.sizes) 2) _ g).0 in
+    let few : length q.sizes ≤ 2 = leb-true (length q.sizes) 2 (both_of (nat_le (length q.sizes) 2) _ g).0 in
     a_param line line (word line (type_text q.ty)) (word line q.name) (may_be_type line q.ty) (are_sizes line q.sizes) (omega (arith, length_sizes line q.sizes))
 
 extents_rest : (line : ℕ) (ns : List ℕ) → AreItems IsExtent line (tile_tokens ns) (map (λ n. Fixed n) ns ++ Open ∷ [])
@@ -157,18 +156,11 @@ unfolding border_word
 border_is line Ignore = ignored_border line line line
 border_is line Preserve = preserved_border line line line
 
-not_true : (b : Bool) → not b ≡ true → b ≡ false
-not_true true e = cc
-not_true false e = refl
-
-same_name : {A : Type 0} (a b : A) → Some a ≡ Some b → a ≡ b
-same_name a b e = cc
-
 free_there : (ws : List (List ℕ)) (k : ℕ) (w : List ℕ) → Fresh ws → slice_get ws k ≡ Some w → is_reserved w ≡ false
 free_there [] k w f e = cc
 free_there (v ∷ ws) zero w f e =
     let free = both_of (is_name v) (not (is_reserved v)) f.0 in
-    ap is_reserved (sym (same_name v w e)) ∙ not_true (is_reserved v) free.1
+    ap is_reserved (sym (same_Some v w e)) ∙ not-true (is_reserved v) free.1
 free_there (v ∷ ws) (suc k) w f e = free_there ws k w f.2 e
 
 -- the names of a valid program are free
