@@ -127,35 +127,50 @@ pair_tokens level f g m n = operator_tokens level 4 + (2 * pairs_round (least_ba
 abbrev pair_opens : (level : ℕ) (f g : Formula) (m n : ℕ) → ℕ
 pair_opens level f g m n = call_pairs level + max (pairs_round (least_bare level level) f + m) (pairs_round (least_bare level (suc level)) g + n)
 
-bare_tokens : (level : ℕ) (f g : Formula) (m n : ℕ) → (level == 10) ≡ false → pair_tokens level f g m n ≡ 1 + (2 * pairs_round level f + m) + (2 * pairs_round (suc level) g + n)
-bare_tokens level f g m n e = ap (λ (b : Bool). (if b then 4 else 1) + (2 * pairs_round (if b then 0 else level) f + m) + (2 * pairs_round (if b then 0 else suc level) g + n)) e
+bare_tokens : (level : ℕ) (f g : Formula) (m n : ℕ) → (level == 10) ≡ false → pair_tokens level f g m n ≡
+    1 + (2 * pairs_round level f + m) + (2 * pairs_round (suc level) g + n)
+bare_tokens level f g m n e =
+    ap (λ (b : Bool). (if b then 4 else 1) + (2 * pairs_round (if b then 0 else level) f + m) + (2 * pairs_round (if b then 0 else suc level) g + n)) e
 
-bare_opens : (level : ℕ) (f g : Formula) (m n : ℕ) → (level == 10) ≡ false → pair_opens level f g m n ≡ 0 + max (pairs_round level f + m) (pairs_round (suc level) g + n)
-bare_opens level f g m n e = ap (λ (b : Bool). (if b then 1 else 0) + max (pairs_round (if b then 0 else level) f + m) (pairs_round (if b then 0 else suc level) g + n)) e
+bare_opens : (level : ℕ) (f g : Formula) (m n : ℕ) → (level == 10) ≡ false → pair_opens level f g m n ≡
+    0 + max (pairs_round level f + m) (pairs_round (suc level) g + n)
+bare_opens level f g m n e =
+    ap (λ (b : Bool). (if b then 1 else 0) + max (pairs_round (if b then 0 else level) f + m) (pairs_round (if b then 0 else suc level) g + n)) e
 
 -- an operator between two operands that are written as they were
-infix_tokens : (p : PlainProgram) (op : BinOp) (level : ℕ) (f g : Formula) → (binary_row op).level ≡ level → (level == 10) ≡ false → token_count p (binary_formula op f g) + 2 * pairs_round level (binary_formula op f g) ≤ token_count p f + 2 * pairs_round level f + 1 + (token_count p g + 2 * pairs_round (suc level) g)
+infix_tokens : (p : PlainProgram) (op : BinOp) (level : ℕ) (f g : Formula) → (binary_row op).level ≡ level → (level == 10) ≡ false →
+    token_count p (binary_formula op f g) + 2 * pairs_round level (binary_formula op f g) ≤ token_count p f + 2 * pairs_round level f + 1 +
+    (token_count p g + 2 * pairs_round (suc level) g)
 infix_tokens p op level f g e bare =
-    let same : token_count p (binary_formula op f g) ≡ pair_tokens level f g (token_count p f) (token_count p g) = ap (λ (l : ℕ). pair_tokens l f g (token_count p f) (token_count p g)) e in
+    let same : token_count p (binary_formula op f g) ≡ pair_tokens level f g (token_count p f) (token_count p g) =
+    ap (λ (l : ℕ). pair_tokens l f g (token_count p f) (token_count p g)) e in
     let none : pairs_round level (binary_formula op f g) ≡ 0 = ap (λ (l : ℕ). pairs_by l level) e ∙ ap (λ (b : Bool). if b then 1 else 0) (not_below level) in
     omega (arith, same, bare_tokens level f g (token_count p f) (token_count p g) bare, none)
 
-infix_opens : (p : PlainProgram) (op : BinOp) (level : ℕ) (f g : Formula) → (binary_row op).level ≡ level → (level == 10) ≡ false → most_open p (binary_formula op f g) + pairs_round level (binary_formula op f g) ≤ max (most_open p f + pairs_round level f) (most_open p g + pairs_round (suc level) g)
+infix_opens : (p : PlainProgram) (op : BinOp) (level : ℕ) (f g : Formula) → (binary_row op).level ≡ level → (level == 10) ≡ false →
+    most_open p (binary_formula op f g) + pairs_round level (binary_formula op f g) ≤ max (most_open p f + pairs_round level f)
+    (most_open p g + pairs_round (suc level) g)
 infix_opens p op level f g e bare =
-    let same : most_open p (binary_formula op f g) ≡ pair_opens level f g (most_open p f) (most_open p g) = ap (λ (l : ℕ). pair_opens l f g (most_open p f) (most_open p g)) e in
+    let same : most_open p (binary_formula op f g) ≡ pair_opens level f g (most_open p f) (most_open p g) =
+    ap (λ (l : ℕ). pair_opens l f g (most_open p f) (most_open p g)) e in
     let none : pairs_round level (binary_formula op f g) ≡ 0 = ap (λ (l : ℕ). pairs_by l level) e ∙ ap (λ (b : Bool). if b then 1 else 0) (not_below level) in
     omega (arith, same, bare_opens level f g (most_open p f) (most_open p g) bare, none)
 
 -- a call of two operands
-call_tokens : (p : PlainProgram) (op : BinOp) (f g : Formula) → (binary_row op).level ≡ 10 → token_count p (binary_formula op f g) + 2 * pairs_round 10 (binary_formula op f g) ≤ 1 + (token_count p f + 2 * pairs_round 0 f + 1 + (token_count p g + 2 * pairs_round 0 g) + 2)
+call_tokens : (p : PlainProgram) (op : BinOp) (f g : Formula) → (binary_row op).level ≡ 10 →
+    token_count p (binary_formula op f g) + 2 * pairs_round 10 (binary_formula op f g) ≤ 1 +
+    (token_count p f + 2 * pairs_round 0 f + 1 + (token_count p g + 2 * pairs_round 0 g) + 2)
 call_tokens p op f g e =
-    let same : token_count p (binary_formula op f g) ≡ pair_tokens 10 f g (token_count p f) (token_count p g) = ap (λ (l : ℕ). pair_tokens l f g (token_count p f) (token_count p g)) e in
+    let same : token_count p (binary_formula op f g) ≡ pair_tokens 10 f g (token_count p f) (token_count p g) =
+    ap (λ (l : ℕ). pair_tokens l f g (token_count p f) (token_count p g)) e in
     let none : pairs_round 10 (binary_formula op f g) ≡ 0 = ap (λ (l : ℕ). pairs_by l 10) e in
     omega (arith, same, none)
 
-call_opens : (p : PlainProgram) (op : BinOp) (f g : Formula) → (binary_row op).level ≡ 10 → most_open p (binary_formula op f g) + pairs_round 10 (binary_formula op f g) ≤ max (most_open p f + pairs_round 0 f) (most_open p g + pairs_round 0 g) + 1
+call_opens : (p : PlainProgram) (op : BinOp) (f g : Formula) → (binary_row op).level ≡ 10 →
+    most_open p (binary_formula op f g) + pairs_round 10 (binary_formula op f g) ≤ max (most_open p f + pairs_round 0 f) (most_open p g + pairs_round 0 g) + 1
 call_opens p op f g e =
-    let same : most_open p (binary_formula op f g) ≡ pair_opens 10 f g (most_open p f) (most_open p g) = ap (λ (l : ℕ). pair_opens l f g (most_open p f) (most_open p g)) e in
+    let same : most_open p (binary_formula op f g) ≡ pair_opens 10 f g (most_open p f) (most_open p g) =
+    ap (λ (l : ℕ). pair_opens l f g (most_open p f) (most_open p g)) e in
     let none : pairs_round 10 (binary_formula op f g) ≡ 0 = ap (λ (l : ℕ). pairs_by l 10) e in
     omega (arith, same, none)
 
@@ -166,13 +181,15 @@ one_tokens level f m = operator_tokens level 3 + 2 * pairs_round (least_bare lev
 abbrev one_opens : (level : ℕ) (f : Formula) (m : ℕ) → ℕ
 one_opens level f m = call_pairs level + pairs_round (least_bare level 9) f + m
 
-prefix_tokens : (p : PlainProgram) (op : UnOp) (f : Formula) → (unary_row op).level ≡ 9 → token_count p (unary_formula op f) + 2 * pairs_round 9 (unary_formula op f) ≤ 1 + (token_count p f + 2 * pairs_round 9 f)
+prefix_tokens : (p : PlainProgram) (op : UnOp) (f : Formula) → (unary_row op).level ≡ 9 →
+    token_count p (unary_formula op f) + 2 * pairs_round 9 (unary_formula op f) ≤ 1 + (token_count p f + 2 * pairs_round 9 f)
 prefix_tokens p op f e =
     let same : token_count p (unary_formula op f) ≡ one_tokens 9 f (token_count p f) = ap (λ (l : ℕ). one_tokens l f (token_count p f)) e in
     let none : pairs_round 9 (unary_formula op f) ≡ 0 = ap (λ (l : ℕ). pairs_by l 9) e in
     omega (arith, same, none)
 
-prefix_opens : (p : PlainProgram) (op : UnOp) (f : Formula) → (unary_row op).level ≡ 9 → most_open p (unary_formula op f) + pairs_round 9 (unary_formula op f) ≤ most_open p f + pairs_round 9 f
+prefix_opens : (p : PlainProgram) (op : UnOp) (f : Formula) → (unary_row op).level ≡ 9 →
+    most_open p (unary_formula op f) + pairs_round 9 (unary_formula op f) ≤ most_open p f + pairs_round 9 f
 prefix_opens p op f e =
     let same : most_open p (unary_formula op f) ≡ one_opens 9 f (most_open p f) = ap (λ (l : ℕ). one_opens l f (most_open p f)) e in
     let none : pairs_round 9 (unary_formula op f) ≡ 0 = ap (λ (l : ℕ). pairs_by l 9) e in
@@ -182,7 +199,8 @@ prefix_opens p op f e =
 offset_length : (ds : List ℤ) → length (offset_or_none ds) ≤ length ds
 offset_length ds = elim (is_offset ds) as (λ (b : Bool). length (cond b ds []) ≤ length ds) [ true ↦ omega arith | false ↦ omega arith ]
 
-cell_tokens : (p : PlainProgram) (n : Option ℕ) (ds : List ℤ) (many : ℕ) → length ds ≤ many → token_count p (cell_formula n ds) + 2 * pairs_round 10 (cell_formula n ds) ≤ 2 + 2 * many
+cell_tokens : (p : PlainProgram) (n : Option ℕ) (ds : List ℤ) (many : ℕ) → length ds ≤ many →
+    token_count p (cell_formula n ds) + 2 * pairs_round 10 (cell_formula n ds) ≤ 2 + 2 * many
 cell_tokens p None ds many le = omega arith
 cell_tokens p (Some k) ds many le = omega arith
 
@@ -207,12 +225,16 @@ count_of r = elim r as (λ (x : Option PlainParam). ℕ) [ None ↦ 0 | Some q �
 abbrev wrong_by : List ℕ → Option ParamLine → Bool
 wrong_by is r = elim r as (λ (x : Option ParamLine). Bool) [ None ↦ true | Some q ↦ not (are_below is q.sizes) ]
 
-found_at : (test : ParamLine → Bool) (params : List ParamLine) (k : ℕ) (q : ParamLine) → position test params ≡ Some k → find test params ≡ Some q → slice_get params k ≡ Some q
+found_at : (test : ParamLine → Bool) (params : List ParamLine) (k : ℕ) (q : ParamLine) → position test params ≡ Some k → find test params ≡ Some q →
+    slice_get params k ≡ Some q
 found_at test params k q e f = let at = find_at test params in grind (arith, common_steps)
 
-indexes_many : (o : Outline) (p : PlainProgram) (w : Word) (is : List ℕ) (k : ℕ) (q : ParamLine) → p.params ≡ map param_of o.params → position (λ q. is_same w q.name) o.params ≡ Some k → find (λ q. is_same w q.name) o.params ≡ Some q → is_wrong_value o.params w is ≡ false → index_count p k ≡ length is
+indexes_many : (o : Outline) (p : PlainProgram) (w : Word) (is : List ℕ) (k : ℕ) (q : ParamLine) → p.params ≡ map param_of o.params →
+    position (λ q. is_same w q.name) o.params ≡ Some k → find (λ q. is_same w q.name) o.params ≡ Some q → is_wrong_value o.params w is ≡ false →
+    index_count p k ≡ length is
 indexes_many o p w is k q same e f wrong =
-    let there : slice_get p.params k ≡ Some (param_of q) = ap (λ (ps : List PlainParam). slice_get ps k) same ∙ (slice_get-map param_of o.params k ∙ ap (option_map param_of) (found_at (λ q. is_same w q.name) o.params k q e f)) in
+    let there : slice_get p.params k ≡ Some (param_of q) = ap (λ (ps : List PlainParam). slice_get ps k) same ∙
+    (slice_get-map param_of o.params k ∙ ap (option_map param_of) (found_at (λ q. is_same w q.name) o.params k q e f)) in
     let good : not (are_below is q.sizes) ≡ false = sym (ap (wrong_by is) f) ∙ wrong in
     let many = below_many is q.sizes (false_not (are_below is q.sizes) good) in
     ap count_of there ∙ (sizes_many q.sizes ∙ sym many)
@@ -222,7 +244,9 @@ record ValueTakes (p : PlainProgram) (n : ℕ) (f : Formula) : Type 0 where
   pub tokens : token_count p f + 2 * pairs_round 10 f ≤ 1 + 3 * n
   pub opens : most_open p f + pairs_round 10 f ≤ one_if_some n
 
-value_by : (o : Outline) (p : PlainProgram) (w : Word) (is : List ℕ) (a : Option ℕ) (b : Option ParamLine) → p.params ≡ map param_of o.params → position (λ q. is_same w q.name) o.params ≡ a → find (λ q. is_same w q.name) o.params ≡ b → is_wrong_value o.params w is ≡ false → ValueTakes p (length is) (value_formula a b is)
+value_by : (o : Outline) (p : PlainProgram) (w : Word) (is : List ℕ) (a : Option ℕ) (b : Option ParamLine) → p.params ≡ map param_of o.params →
+    position (λ q. is_same w q.name) o.params ≡ a → find (λ q. is_same w q.name) o.params ≡ b → is_wrong_value o.params w is ≡ false →
+    ValueTakes p (length is) (value_formula a b is)
 value_by o p w is None b same e f wrong = record { tokens = omega arith; opens = omega arith }
 value_by o p w is (Some k) None same e f wrong = record { tokens = omega arith; opens = omega arith }
 value_by o p w is (Some k) (Some q) same e f wrong =
@@ -230,52 +254,75 @@ value_by o p w is (Some k) (Some q) same e f wrong =
     let opened : one_if_some (index_count p k) ≡ one_if_some (length is) = ap one_if_some many in
     record { tokens = omega (arith, many); opens = omega (arith, opened) }
 
-value_takes : (o : Outline) (p : PlainProgram) (w : Word) (is : List ℕ) → p.params ≡ map param_of o.params → is_wrong_value o.params w is ≡ false → ValueTakes p (length is) (named_value o.params w is)
+value_takes : (o : Outline) (p : PlainProgram) (w : Word) (is : List ℕ) → p.params ≡ map param_of o.params → is_wrong_value o.params w is ≡ false →
+    ValueTakes p (length is) (named_value o.params w is)
 value_takes o p w is same wrong =
     value_by o p w is (position (λ q. is_same w q.name) o.params) (find (λ q. is_same w q.name) o.params) same refl refl wrong
 
 -- a formula takes what the canonical text writes for it, with the brackets that its place asks for
-pub takes : (o : Outline) (p : PlainProgram) (left : List ℤ) → p.params ≡ map param_of o.params → (level : ℕ) (ts : List Placed) (t : Term) → IsTerm level ts t → find (is_wrong_site o) (uses_in t) ≡ None → Takes (token_count p (formula_of o left t) + 2 * pairs_round level (formula_of o left t)) (most_open p (formula_of o left t) + pairs_round level (formula_of o left t)) ts
+pub takes : (o : Outline) (p : PlainProgram) (left : List ℤ) → p.params ≡ map param_of o.params → (level : ℕ) (ts : List Placed) (t : Term) →
+    IsTerm level ts t → find (is_wrong_site o) (uses_in t) ≡ None →
+    Takes (token_count p (formula_of o left t) + 2 * pairs_round level (formula_of o left t))
+    (most_open p (formula_of o left t) + pairs_round level (formula_of o left t)) ts
 takes o p left same level ts t (tighter h) none =
     let more = pairs_more level (formula_of o left t) in
     takes_less _ _ _ _ ts (takes o p left same (suc level) ts t h none) (omega (arith, more)) (omega (arith, more))
 takes o p left same level ts t (joined {ts = us} {us = vs} {a = a} {b = b} line s op e x y) none =
     let facts : GoodInfix s (record { level = level; op = op }) = subst (InfixFacts s) e (infix_facts s) in
     let both = none_in_both (is_wrong_site o) (uses_in a) (uses_in b) none in
-    takes_less _ _ _ _ _ (takes_joined _ _ _ _ line s us vs facts.passing (takes o p left same level us a x both.0) (takes o p left same (suc level) vs b y both.1)) (infix_tokens p op level (formula_of o left a) (formula_of o left b) facts.level facts.bare) (infix_opens p op level (formula_of o left a) (formula_of o left b) facts.level facts.bare)
+    takes_less _ _ _ _ _ (takes_joined _ _ _ _ line s us vs facts.passing (takes o p left same level us a x both.0)
+    (takes o p left same (suc level) vs b y both.1)) (infix_tokens p op level (formula_of o left a) (formula_of o left b) facts.level facts.bare)
+    (infix_opens p op level (formula_of o left a) (formula_of o left b) facts.level facts.bare)
 takes o p left same level ts t (prefixed {ts = us} {a = a} line s op e x) none =
     let facts : GoodPrefix s op = subst (PrefixFacts s) e (prefix_facts s) in
-    takes_less _ _ _ _ _ (takes_sign _ _ line s us facts.passing (takes o p left same 9 us a x none)) (prefix_tokens p op (formula_of o left a) facts.level) (prefix_opens p op (formula_of o left a) facts.level)
+    takes_less _ _ _ _ _ (takes_sign _ _ line s us facts.passing (takes o p left same 9 us a x none))
+    (prefix_tokens p op (formula_of o left a) facts.level) (prefix_opens p op (formula_of o left a) facts.level)
 takes o p left same level ts t (a_literal line n) none = record {
   counts = λ rest closed. omega arith;
   opens = λ k rest. omega (arith, peak_least k (number_on line n ∷ rest));
   closes = λ k rest. omega arith;
 }
 takes o p left same level ts t (bracketed {ts = us} opened closed x) none =
-    takes_less _ _ _ _ _ (takes_round _ _ opened closed us (takes o p left same 0 us t x none)) (omega (arith, pairs_most 10 (formula_of o left t))) (omega (arith, pairs_most 10 (formula_of o left t)))
+    takes_less _ _ _ _ _ (takes_round _ _ opened closed us (takes o p left same 0 us t x none)) (omega (
+      arith,
+      pairs_most 10 (formula_of o left t),
+    )) (omega (arith, pairs_most 10 (formula_of o left t)))
 takes o p left same level ts t (a_cast {ts = us} {a = a} type opened closed e x) none =
-    takes_less _ _ _ _ _ (takes_named _ _ type.line type.text _ (cast_reserved type.text e) (takes_round _ _ opened closed us (takes o p left same 0 us a x none))) (omega arith) (omega arith)
+    takes_less _ _ _ _ _ (takes_named _ _ type.line type.text _ (cast_reserved type.text e)
+    (takes_round _ _ opened closed us (takes o p left same 0 us a x none))) (omega arith) (omega arith)
 takes o p left same level ts t (an_abs {ts = us} {a = a} line opened closed x) none =
-    takes_less _ _ _ _ _ (takes_named _ _ line (codes "abs") _ refl (takes_round _ _ opened closed us (takes o p left same 0 us a x none))) (omega (arith, pairs_none (formula_of o left a))) (omega (arith, pairs_none (formula_of o left a)))
+    takes_less _ _ _ _ _ (takes_named _ _ line (codes "abs") _ refl (takes_round _ _ opened closed us (takes o p left same 0 us a x none))) (omega (
+      arith,
+      pairs_none (formula_of o left a),
+    )) (omega (arith, pairs_none (formula_of o left a)))
 takes o p left same level ts t (a_call {ts = us} {us = vs} {a = a} {b = b} line opened comma closed op text e x y) none =
     let facts : GoodCall op text = subst (CallFacts op) e (call_facts op) in
     let both = none_in_both (is_wrong_site o) (uses_in a) (uses_in b) none in
     let inside = takes_joined _ _ _ _ comma Comma us vs comma_passes (takes o p left same 0 us a x both.0) (takes o p left same 0 vs b y both.1) in
     let round = takes_round _ _ opened closed (us ++ symbol_on comma Comma ∷ vs) inside in
-    let order : (us ++ symbol_on comma Comma ∷ vs) ++ symbol_on closed CloseRound ∷ [] ≡ us ++ symbol_on comma Comma ∷ (vs ++ symbol_on closed CloseRound ∷ []) = append_assoc us (symbol_on comma Comma ∷ vs) (symbol_on closed CloseRound ∷ []) in
-    takes_less _ _ _ _ _ (takes_named _ _ line text _ facts.reserved (rw order at round)) (call_tokens p op (formula_of o left a) (formula_of o left b) facts.level) (call_opens p op (formula_of o left a) (formula_of o left b) facts.level)
+    let order : (us ++ symbol_on comma Comma ∷ vs) ++ symbol_on closed CloseRound ∷ [] ≡
+    us ++ symbol_on comma Comma ∷ (vs ++ symbol_on closed CloseRound ∷ []) =
+    append_assoc us (symbol_on comma Comma ∷ vs) (symbol_on closed CloseRound ∷ []) in
+    takes_less _ _ _ _ _ (takes_named _ _ line text _ facts.reserved (rw order at round))
+    (call_tokens p op (formula_of o left a) (formula_of o left b) facts.level) (call_opens p op (formula_of o left a) (formula_of o left b) facts.level)
 takes o p left same level ts t (a_choice {ts = us} {us = vs} {vs = ws} {a = a} {b = b} {c = c} line opened first second closed x y z) none =
     let both = none_in_both (is_wrong_site o) (uses_in a) (uses_in b ++ uses_in c) none in
     let two = none_in_both (is_wrong_site o) (uses_in b) (uses_in c) both.1 in
     let last = takes_joined _ _ _ _ second Comma vs ws comma_passes (takes o p left same 0 vs b y two.0) (takes o p left same 0 ws c z two.1) in
     let inside = takes_joined _ _ _ _ first Comma us (vs ++ symbol_on second Comma ∷ ws) comma_passes (takes o p left same 0 us a x both.0) last in
     let round = takes_round _ _ opened closed (us ++ symbol_on first Comma ∷ (vs ++ symbol_on second Comma ∷ ws)) inside in
-    let inner : (vs ++ symbol_on second Comma ∷ ws) ++ symbol_on closed CloseRound ∷ [] ≡ vs ++ symbol_on second Comma ∷ (ws ++ symbol_on closed CloseRound ∷ []) = append_assoc vs (symbol_on second Comma ∷ ws) (symbol_on closed CloseRound ∷ []) in
-    let order : (us ++ symbol_on first Comma ∷ (vs ++ symbol_on second Comma ∷ ws)) ++ symbol_on closed CloseRound ∷ [] ≡ us ++ symbol_on first Comma ∷ (vs ++ symbol_on second Comma ∷ (ws ++ symbol_on closed CloseRound ∷ [])) = append_assoc us (symbol_on first Comma ∷ (vs ++ symbol_on second Comma ∷ ws)) (symbol_on closed CloseRound ∷ []) ∙ ap (λ (l : List Placed). us ++ symbol_on first Comma ∷ l) inner in
+    let inner : (vs ++ symbol_on second Comma ∷ ws) ++ symbol_on closed CloseRound ∷ [] ≡
+    vs ++ symbol_on second Comma ∷ (ws ++ symbol_on closed CloseRound ∷ []) =
+    append_assoc vs (symbol_on second Comma ∷ ws) (symbol_on closed CloseRound ∷ []) in
+    let order : (us ++ symbol_on first Comma ∷ (vs ++ symbol_on second Comma ∷ ws)) ++ symbol_on closed CloseRound ∷ [] ≡
+    us ++ symbol_on first Comma ∷ (vs ++ symbol_on second Comma ∷ (ws ++ symbol_on closed CloseRound ∷ [])) =
+    append_assoc us (symbol_on first Comma ∷ (vs ++ symbol_on second Comma ∷ ws)) (symbol_on closed CloseRound ∷ []) ∙
+    ap (λ (l : List Placed). us ++ symbol_on first Comma ∷ l) inner in
     takes_less _ _ _ _ _ (takes_named _ _ line (codes "select") _ refl (rw order at round)) (omega arith) (omega arith)
 takes o p left same level ts t (a_cell {ts = us} {offsets = ds} w e are) none =
     let few : length (offset_or_none (shifted ds left)) ≤ length ds = omega (arith, offset_length (shifted ds left), shifted_length ds left) in
-    takes_less _ _ _ _ _ (takes_cell w us ds e are) (cell_tokens p (tensor_number o w) (offset_or_none (shifted ds left)) (length ds) few) (cell_opens p (tensor_number o w) (offset_or_none (shifted ds left)))
+    takes_less _ _ _ _ _ (takes_cell w us ds e are) (cell_tokens p (tensor_number o w) (offset_or_none (shifted ds left)) (length ds) few)
+    (cell_opens p (tensor_number o w) (offset_or_none (shifted ds left)))
 takes o p left same level ts t (a_value {ts = us} {indexes = is} w e are le) none =
     let here = none_here (is_wrong_site o) (Value w is) [] none in
     let v = value_takes o p w is same here.0 in

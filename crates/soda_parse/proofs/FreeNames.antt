@@ -19,7 +19,9 @@ use Rattle.soda_words.proofs.CallerLemmas.{is_word-turned}
 
 -- the names of an outline, params before inputs before locals and outputs
 abbrev names_of : Outline → List (List ℕ)
-names_of o = map (λ (w : Word). w.text) (map (λ (q : ParamLine). q.name) o.params) ++ (map (λ (i : InputLine). i.name.text) o.inputs ++ map (λ (d : Defined). d.name.text) o.defined)
+names_of o =
+    map (λ (w : Word). w.text) (map (λ (q : ParamLine). q.name) o.params) ++ (map (λ (i : InputLine). i.name.text) o.inputs ++ map
+    (λ (d : Defined). d.name.text) o.defined)
 
 -- each is free, and like none behind it
 abbrev Fresh : List (List ℕ) → Type 0
@@ -53,7 +55,8 @@ apart_more (x ∷ es) w ws a e =
 abbrev texts : List Word → List (List ℕ)
 texts ws = map (λ (w : Word). w.text) ws
 
-taken_step : (earlier : List Word) (w : Word) (ws : List Word) (t : Bool) → (is_reserved w.text || is_one_of earlier w) ≡ t → cond t (Some w.line) (taken_behind (earlier ++ w ∷ []) ws) ≡ None → (t ≡ false) × (taken_behind (earlier ++ w ∷ []) ws ≡ None)
+taken_step : (earlier : List Word) (w : Word) (ws : List Word) (t : Bool) → (is_reserved w.text || is_one_of earlier w) ≡ t →
+    cond t (Some w.line) (taken_behind (earlier ++ w ∷ []) ws) ≡ None → (t ≡ false) × (taken_behind (earlier ++ w ∷ []) ws ≡ None)
 taken_step earlier w ws true e f = cc
 taken_step earlier w ws false e f = (refl, f)
 
@@ -77,7 +80,8 @@ any_insert : (f : List ℕ → Bool) (xs : List (List ℕ)) (n : List ℕ) (ys :
 any_insert f [] n ys = refl
 any_insert f (x ∷ xs) n ys = ap (λ (b : Bool). f x || b) (any_insert f xs n ys) ∙ or_swap (f x) (f n) (list_any f (xs ++ ys))
 
-insert : (xs : List (List ℕ)) (n : List ℕ) (ys : List (List ℕ)) → Fresh (xs ++ ys) → is_free_name n ≡ true → list_any (is_word n) (xs ++ ys) ≡ false → Fresh (xs ++ n ∷ ys)
+insert : (xs : List (List ℕ)) (n : List ℕ) (ys : List (List ℕ)) → Fresh (xs ++ ys) → is_free_name n ≡ true → list_any (is_word n) (xs ++ ys) ≡ false →
+    Fresh (xs ++ n ∷ ys)
 insert [] n ys f g e = (g, e, f)
 insert (x ∷ xs) n ys f g e =
     let both = neither_of (is_word n x) (list_any (is_word n) (xs ++ ys)) e in
@@ -115,12 +119,18 @@ reordered (cluster l ∷ ss) = reordered ss
 reordered (param q ∷ ss) =
     one_more q.name.text (texts (outline_of ss).declared) [] (names_of (outline_of ss)) (reordered ss)
 reordered (input i ∷ ss) =
-    one_more i.name.text (texts (outline_of ss).declared) (texts (map (λ (q : ParamLine). q.name) (outline_of ss).params)) (map (λ (j : InputLine). j.name.text) (outline_of ss).inputs ++ map (λ (d : Defined). d.name.text) (outline_of ss).defined) (reordered ss)
+    one_more i.name.text (texts (outline_of ss).declared) (texts (map (λ (q : ParamLine). q.name) (outline_of ss).params))
+    (map (λ (j : InputLine). j.name.text) (outline_of ss).inputs ++ map (λ (d : Defined). d.name.text) (outline_of ss).defined) (reordered ss)
 reordered (local g ∷ ss) =
-    two_before g.name.text (texts (outline_of ss).declared) (texts (map (λ (q : ParamLine). q.name) (outline_of ss).params)) (map (λ (j : InputLine). j.name.text) (outline_of ss).inputs) (map (λ (d : Defined). d.name.text) (outline_of ss).defined) (reordered ss)
+    two_before g.name.text (texts (outline_of ss).declared) (texts (map (λ (q : ParamLine). q.name) (outline_of ss).params))
+    (map (λ (j : InputLine). j.name.text) (outline_of ss).inputs) (map (λ (d : Defined). d.name.text) (outline_of ss).defined) (reordered ss)
 reordered (output g ∷ ss) =
-    two_before g.name.text (texts (outline_of ss).declared) (texts (map (λ (q : ParamLine). q.name) (outline_of ss).params)) (map (λ (j : InputLine). j.name.text) (outline_of ss).inputs) (map (λ (d : Defined). d.name.text) (outline_of ss).defined) (reordered ss)
+    two_before g.name.text (texts (outline_of ss).declared) (texts (map (λ (q : ParamLine). q.name) (outline_of ss).params))
+    (map (λ (j : InputLine). j.name.text) (outline_of ss).inputs) (map (λ (d : Defined). d.name.text) (outline_of ss).defined) (reordered ss)
 
-pub free_names : (o : Outline) (ss : List PlainStatement) → taken_behind [] (outline_of ss).declared ≡ None → list_all (λ w. is_name w.text) (outline_of ss).declared ≡ true → are_free_names (map (λ w. w.text) (map (λ q. q.name) (outline_of ss).params) ++ (map (λ i. i.name.text) (outline_of ss).inputs ++ map (λ d. d.name.text) (outline_of ss).defined)) ≡ true
+pub free_names : (o : Outline) (ss : List PlainStatement) → taken_behind [] (outline_of ss).declared ≡ None →
+    list_all (λ w. is_name w.text) (outline_of ss).declared ≡ true →
+    are_free_names (map (λ w. w.text) (map (λ q. q.name) (outline_of ss).params) ++
+    (map (λ i. i.name.text) (outline_of ss).inputs ++ map (λ d. d.name.text) (outline_of ss).defined)) ≡ true
 free_names o ss none named =
     of_fresh (names_of (outline_of ss)) ((reordered ss).fresh (all_fresh [] (outline_of ss).declared none named).0)

@@ -26,7 +26,8 @@ below_more i n = grind (arith, nat_tests)
 pub place_next : {A : Type 0} (test : A → Bool) (x : A) (xs : List A) → test x ≡ false → position test (x ∷ xs) ≡ option_map suc (position test xs)
 place_next test x xs e = rw e (below_more (position_or_len test xs) (length xs))
 
-place_by : {A B : Type 0} (test : B → Bool) (f : A → B) (x : A) (xs : List A) (t : Bool) → test (f x) ≡ t → position (λ y. test (f y)) xs ≡ position test (map f xs) → position (λ y. test (f y)) (x ∷ xs) ≡ position test (map f (x ∷ xs))
+place_by : {A B : Type 0} (test : B → Bool) (f : A → B) (x : A) (xs : List A) (t : Bool) → test (f x) ≡ t →
+    position (λ y. test (f y)) xs ≡ position test (map f xs) → position (λ y. test (f y)) (x ∷ xs) ≡ position test (map f (x ∷ xs))
 place_by test f x xs true e more = place_first (λ y. test (f y)) x xs e ∙ sym (place_first test (f x) (map f xs) e)
 place_by test f x xs false e more =
     place_next (λ y. test (f y)) x xs e ∙ (ap (option_map suc) more ∙ sym (place_next test (f x) (map f xs) e))
@@ -44,14 +45,18 @@ shift_more n (Some a) b = refl
 shift_more n None None = refl
 shift_more n None (Some k) = ap (λ (m : ℕ). Some m) (omega arith)
 
-two_by : {A : Type 0} (test : A → Bool) (x : A) (xs ys : List A) (t : Bool) → test x ≡ t → or_else (position test xs) (option_map (λ k. length xs + k) (position test ys)) ≡ position test (xs ++ ys) → or_else (position test (x ∷ xs)) (option_map (λ k. suc (length xs) + k) (position test ys)) ≡ position test (x ∷ (xs ++ ys))
+two_by : {A : Type 0} (test : A → Bool) (x : A) (xs ys : List A) (t : Bool) → test x ≡ t →
+    or_else (position test xs) (option_map (λ k. length xs + k) (position test ys)) ≡ position test (xs ++ ys) →
+    or_else (position test (x ∷ xs)) (option_map (λ k. suc (length xs) + k) (position test ys)) ≡ position test (x ∷ (xs ++ ys))
 two_by test x xs ys true e more =
-    ap (λ (r : Option ℕ). or_else r (option_map (λ k. suc (length xs) + k) (position test ys))) (place_first test x xs e) ∙ sym (place_first test x (xs ++ ys) e)
+    ap (λ (r : Option ℕ). or_else r (option_map (λ k. suc (length xs) + k) (position test ys))) (place_first test x xs e) ∙
+    sym (place_first test x (xs ++ ys) e)
 two_by test x xs ys false e more =
     ap (λ (r : Option ℕ). or_else r (option_map (λ k. suc (length xs) + k) (position test ys))) (place_next test x xs e)
     ∙ (shift_more (length xs) (position test xs) (position test ys) ∙ (ap (option_map suc) more ∙ sym (place_next test x (xs ++ ys) e)))
 
-pub place_in_two : {A : Type 0} (test : A → Bool) (xs ys : List A) → or_else (position test xs) (option_map (λ k. length xs + k) (position test ys)) ≡ position test (xs ++ ys)
+pub place_in_two : {A : Type 0} (test : A → Bool) (xs ys : List A) → or_else (position test xs) (option_map (λ k. length xs + k) (position test ys)) ≡
+    position test (xs ++ ys)
 place_in_two test [] ys = shift_0 (position test ys)
 place_in_two test (x ∷ xs) ys = two_by test x xs ys (test x) refl (place_in_two test xs ys)
 

@@ -46,7 +46,8 @@ found_first line r q qs w e n =
       found = rw same (ap (λ (s : PlainParam). Some (param_on line s)) e);
     }
 
-found_next : (line : ℕ) (r q : PlainParam) (qs : List PlainParam) (k : ℕ) (w : Word) → is_word w.text r.name ≡ false → IsParamAt (param_lines (suc line) qs) k q w → IsParamAt (param_lines line (r ∷ qs)) (suc k) q w
+found_next : (line : ℕ) (r q : PlainParam) (qs : List PlainParam) (k : ℕ) (w : Word) → is_word w.text r.name ≡ false →
+    IsParamAt (param_lines (suc line) qs) k q w → IsParamAt (param_lines line (r ∷ qs)) (suc k) q w
 found_next line r q qs k w e h = record {
   line = h.line;
   place = place_next (λ (s : ParamLine). is_same w s.name) (param_on line r) (param_lines (suc line) qs) e ∙ ap (option_map suc) h.place;
@@ -58,7 +59,8 @@ name_mapped [] k q e = cc
 name_mapped (r ∷ qs) zero q e = ap (λ (s : PlainParam). Some s.name) (same_param r q e)
 name_mapped (r ∷ qs) (suc k) q e = name_mapped qs k q e
 
-pub param_at : (line : ℕ) (qs : List PlainParam) (k : ℕ) (q : PlainParam) (w : Word) → Fresh (map (λ (r : PlainParam). r.name) qs) → slice_get qs k ≡ Some q → w.text ≡ q.name → IsParamAt (param_lines line qs) k q w
+pub param_at : (line : ℕ) (qs : List PlainParam) (k : ℕ) (q : PlainParam) (w : Word) → Fresh (map (λ (r : PlainParam). r.name) qs) →
+    slice_get qs k ≡ Some q → w.text ≡ q.name → IsParamAt (param_lines line qs) k q w
 param_at line [] k q w f e n = cc
 param_at line (r ∷ qs) zero q w f e n = found_first line r q qs w (same_param r q e) n
 param_at line (r ∷ qs) (suc k) q w f e n =
@@ -93,7 +95,8 @@ indexed line (n ∷ m ∷ []) i few h = two_indexes (m == 0) line n m i refl h
 indexed line (n ∷ m ∷ k ∷ ns) i few h = absurd (omega arith)
 
 -- the value of a param is found again
-value_back : (o : Outline) (line k i : ℕ) (q : PlainParam) → IsParamAt o.params k q (word line q.name) → length q.sizes ≤ 2 → i < size q.sizes → i < 65536 → named_value o.params (word line q.name) (indexes q.sizes i) ≡ value_of k i
+value_back : (o : Outline) (line k i : ℕ) (q : PlainParam) → IsParamAt o.params k q (word line q.name) → length q.sizes ≤ 2 → i < size q.sizes → i < 65536 →
+    named_value o.params (word line q.name) (indexes q.sizes i) ≡ value_of k i
 value_back o line k i q h two within small =
     let ix : IsIndexed (sizes_on h.line q.sizes) (indexes q.sizes i) i = indexed h.line q.sizes i two within in
     let place : place_of (sizes_on h.line q.sizes) (indexes q.sizes i) ≡ i = rw (ix.below, ix.place, lt_true i 65536 small) refl in
@@ -134,13 +137,15 @@ cell_there p k ds h =
     let b = both_of (nat_lt k (length p.tensors)) (length ds == suc (length p.extents)) a.0 in
     record { within = ltb-true k (length p.tensors) b.0; many = grind (arith, nat_tests, b.1); near = a.1 }
 
-cell_back : (o : Outline) (p : PlainProgram) (line k : ℕ) (ds : List ℤ) → Knows o p → IsCellThere p k ds → cell_formula (tensor_number o (word line (tensor_name p k))) (offset_or_none (shifted ds (zeros p))) ≡ read k ds
+cell_back : (o : Outline) (p : PlainProgram) (line k : ℕ) (ds : List ℤ) → Knows o p → IsCellThere p k ds →
+    cell_formula (tensor_number o (word line (tensor_name p k))) (offset_or_none (shifted ds (zeros p))) ≡ read k ds
 cell_back o p line k ds h there =
     let few : nat_le (length ds) 4 ≡ true = le_true (length ds) 4 (omega (arith, there.many, h.dims)) in
     let stays : offset_or_none ds ≡ ds = rw (few, there.near) refl in
     rw (h.tensors line k there.within, shifted_zeros ds p.extents) (ap (λ (es : List ℤ). read k es) stays)
 
-place_back : (o : Outline) (p : PlainProgram) (line k i : ℕ) (r : Option PlainParam) → Knows o p → slice_get p.params k ≡ r → (elim r as (λ v. Bool) [ None ↦ false | Some q ↦ nat_lt i (size q.sizes) ]) ≡ true → meant o (zeros p) (written_value line i r) ≡ value_of k i
+place_back : (o : Outline) (p : PlainProgram) (line k i : ℕ) (r : Option PlainParam) → Knows o p → slice_get p.params k ≡ r →
+    (elim r as (λ v. Bool) [ None ↦ false | Some q ↦ nat_lt i (size q.sizes) ]) ≡ true → meant o (zeros p) (written_value line i r) ≡ value_of k i
 place_back o p line k i None h e u = cc
 place_back o p line k i (Some q) h e u =
     let within : i < size q.sizes = ltb-true i (size q.sizes) u in

@@ -59,7 +59,9 @@ few_counted ts small =
 few_open : (ts : List Placed) → ((j : ℕ) → IsLarge (take j ts) → ⊥) → peak 0 ts ≤ 64
 few_open ts small = peak_most 64 0 ts (λ j. let no : 64 < open_brackets_from 0 (take j ts) → ⊥ = λ lt. small j (inl lt) in omega (arith, no))
 
-pub small_formula : (o : Outline) (p : PlainProgram) (left : List ℤ) (t : Term) (ts : List Placed) → p.params ≡ map param_of o.params → find (is_wrong_site o) (uses_in t) ≡ None → IsFormula ts t → ((j : ℕ) → IsLarge (take j ts) → ⊥) → (nat_le (token_count p (formula_of o left t)) 1500 && nat_le (most_open p (formula_of o left t)) 64) ≡ true
+pub small_formula : (o : Outline) (p : PlainProgram) (left : List ℤ) (t : Term) (ts : List Placed) → p.params ≡ map param_of o.params →
+    find (is_wrong_site o) (uses_in t) ≡ None → IsFormula ts t → ((j : ℕ) → IsLarge (take j ts) → ⊥) →
+    (nat_le (token_count p (formula_of o left t)) 1500 && nat_le (most_open p (formula_of o left t)) 64) ≡ true
 small_formula o p left t ts same none is small =
     let taken = takes o p left same 0 ts t is none in
     let whole = append_none ts in
@@ -85,17 +87,32 @@ none_large whole small front rest e large =
     small (length front) (subst IsTooLarge same large)
 
 -- no front of a formula of a text is too large
-part_small : (before head us behind : List Placed) (done : List PlainStatement) (t : Term) → AreStatements before done → IsHead head → IsFormula us t → NoneLarge (before ++ ((head ++ us) ++ behind)) → (j : ℕ) → IsLarge (take j us) → ⊥
+part_small : (before head us behind : List Placed) (done : List PlainStatement) (t : Term) → AreStatements before done → IsHead head → IsFormula us t →
+    NoneLarge (before ++ ((head ++ us) ++ behind)) → (j : ℕ) → IsLarge (take j us) → ⊥
 part_small before head us behind done t are headed is small j large =
     let parts : take j us ++ drop j us ≡ us = take-append-drop j us in
     let begun : BeginsFormula (take j us) = (drop j us, t, subst (λ (vs : List Placed). IsFormula vs t) (sym parts) is) in
-    let ends : EndsInFormula (before ++ (head ++ take j us)) (take j us) = record { before = before; statements = done; head = head; is = refl; whole = are; left = headed; begun = begun } in
-    let inner : (head ++ take j us) ++ (drop j us ++ behind) ≡ (head ++ us) ++ behind = append_assoc head (take j us) (drop j us ++ behind) ∙ (ap (λ (l : List Placed). head ++ l) (sym (append_assoc (take j us) (drop j us) behind) ∙ ap (λ (l : List Placed). l ++ behind) parts) ∙ sym (append_assoc head us behind)) in
-    let all : (before ++ (head ++ take j us)) ++ (drop j us ++ behind) ≡ before ++ ((head ++ us) ++ behind) = append_assoc before (head ++ take j us) (drop j us ++ behind) ∙ ap (λ (l : List Placed). before ++ l) inner in
+    let ends : EndsInFormula (before ++ (head ++ take j us)) (take j us) = record {
+      before = before;
+      statements = done;
+      head = head;
+      is = refl;
+      whole =
+          are;
+      left = headed;
+      begun = begun;
+    } in
+    let inner : (head ++ take j us) ++ (drop j us ++ behind) ≡ (head ++ us) ++ behind = append_assoc head (take j us) (drop j us ++ behind) ∙
+    (ap (λ (l : List Placed). head ++ l) (sym (append_assoc (take j us) (drop j us) behind) ∙ ap (λ (l : List Placed). l ++ behind) parts) ∙
+    sym (append_assoc head us behind)) in
+    let all : (before ++ (head ++ take j us)) ++ (drop j us ++ behind) ≡ before ++ ((head ++ us) ++ behind) =
+    append_assoc before (head ++ take j us) (drop j us ++ behind) ∙ ap (λ (l : List Placed). before ++ l) inner in
     small (before ++ (head ++ take j us)) (drop j us ++ behind) all (record { part = take j us; within = ends; large = large })
 
 -- the tensors of a statement behind others are small
-one_small : (o : Outline) (p : PlainProgram) (before ts behind : List Placed) (done : List PlainStatement) (s : PlainStatement) → p.params ≡ map param_of o.params → AreStatements before done → IsStatement ts s → NoneLarge (before ++ (ts ++ behind)) → find (is_wrong_site o) (outline_in s).sites ≡ None → list_all (is_small p) (tensors_in o s) ≡ true
+one_small : (o : Outline) (p : PlainProgram) (before ts behind : List Placed) (done : List PlainStatement) (s : PlainStatement) →
+    p.params ≡ map param_of o.params → AreStatements before done → IsStatement ts s → NoneLarge (before ++ (ts ++ behind)) →
+    find (is_wrong_site o) (outline_in s).sites ≡ None → list_all (is_small p) (tensors_in o s) ≡ true
 unfolding outline_in
 one_small o p before ts behind done s same are (a_kernel l c a t) small none = refl
 one_small o p before ts behind done s same are (a_burst_width l m c a w) small none = refl
@@ -120,14 +137,19 @@ sites_first : (s : PlainStatement) (ss : List PlainStatement) → (outline_of (s
 unfolding outline_of
 sites_first s ss = refl
 
-all_small : (o : Outline) (p : PlainProgram) (before ts : List Placed) (done ss : List PlainStatement) → p.params ≡ map param_of o.params → AreStatements before done → AreStatements ts ss → NoneLarge (before ++ ts) → find (is_wrong_site o) (outline_of ss).sites ≡ None → list_all (is_small p) (flat_map (tensors_in o) ss) ≡ true
+all_small : (o : Outline) (p : PlainProgram) (before ts : List Placed) (done ss : List PlainStatement) → p.params ≡ map param_of o.params →
+    AreStatements before done → AreStatements ts ss → NoneLarge (before ++ ts) → find (is_wrong_site o) (outline_of ss).sites ≡ None →
+    list_all (is_small p) (flat_map (tensors_in o) ss) ≡ true
 all_small o p before ts done ss same are no_statement small none = refl
 all_small o p before ts done ss same are (statement_before {ts = one} {us = others} {s = s} {ss = rest} is more) small none =
     let both = none_in_both (is_wrong_site o) (outline_in s).sites (outline_of rest).sites (ap (find (is_wrong_site o)) (sym (sites_first s rest)) ∙ none) in
-    let grown : AreStatements (before ++ one) (done ++ s ∷ []) = statements_both before one done (s ∷ []) are (subst (λ (l : List Placed). AreStatements l (s ∷ [])) (append_none one) (statement_before is no_statement)) in
+    let grown : AreStatements (before ++ one) (done ++ s ∷ []) =
+    statements_both before one done (s ∷ []) are (subst (λ (l : List Placed). AreStatements l (s ∷ [])) (append_none one) (statement_before is no_statement)) in
     let order : before ++ (one ++ others) ≡ (before ++ one) ++ others = sym (append_assoc before one others) in
-    all_of_both (is_small p) (tensors_in o s) (flat_map (tensors_in o) rest) (one_small o p before one others done s same are is small both.0) (all_small o p (before ++ one) others (done ++ s ∷ []) rest same grown more (subst NoneLarge order small) both.1)
+    all_of_both (is_small p) (tensors_in o s) (flat_map (tensors_in o) rest) (one_small o p before one others done s same are is small both.0)
+    (all_small o p (before ++ one) others (done ++ s ∷ []) rest same grown more (subst NoneLarge order small) both.1)
 
-pub small_tensors : (o : Outline) (p : PlainProgram) (bytes : List ℕ) (ss : List PlainStatement) → p.params ≡ map param_of o.params → find (is_wrong_site o) (outline_of ss).sites ≡ None → IsSyntax (tokens_of bytes) ss → list_all (is_small p) (flat_map (tensors_in o) ss) ≡ true
+pub small_tensors : (o : Outline) (p : PlainProgram) (bytes : List ℕ) (ss : List PlainStatement) → p.params ≡ map param_of o.params →
+    find (is_wrong_site o) (outline_of ss).sites ≡ None → IsSyntax (tokens_of bytes) ss → list_all (is_small p) (flat_map (tensors_in o) ss) ≡ true
 small_tensors o p bytes ss same none syn =
     all_small o p [] (tokens_of bytes) [] ss same no_statement syn.statements (none_large (tokens_of bytes) syn.small) none

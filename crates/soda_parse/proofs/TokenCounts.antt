@@ -68,10 +68,12 @@ pub passing_closed : (line : ℕ) (s : Symbol) (rest : List Placed) → IsPassin
 passing_closed line s rest pass = ap (λ (q : Place). 1 + counted_tokens_from q rest) pass.behind
 
 -- behind a reserved word the place is outside
-pub reserved_counts : (line : ℕ) (text : List ℕ) (ts : List Placed) → is_reserved text ≡ true → counted_tokens_from outside (name_on line text ∷ ts) ≡ 1 + counted_tokens_from outside ts
+pub reserved_counts : (line : ℕ) (text : List ℕ) (ts : List Placed) → is_reserved text ≡ true →
+    counted_tokens_from outside (name_on line text ∷ ts) ≡ 1 + counted_tokens_from outside ts
 reserved_counts line text ts e = ap (λ (b : Bool). 1 + counted_tokens_from (if b then outside else behind_name) ts) e
 
-pub free_counts : (line : ℕ) (text : List ℕ) (ts : List Placed) → is_reserved text ≡ false → counted_tokens_from outside (name_on line text ∷ ts) ≡ 1 + counted_tokens_from behind_name ts
+pub free_counts : (line : ℕ) (text : List ℕ) (ts : List Placed) → is_reserved text ≡ false →
+    counted_tokens_from outside (name_on line text ∷ ts) ≡ 1 + counted_tokens_from behind_name ts
 free_counts line text ts e = ap (λ (b : Bool). 1 + counted_tokens_from (if b then outside else behind_name) ts) e
 
 abbrev pub one_if_some : ℕ → ℕ

@@ -24,7 +24,11 @@ text_by s n = (if s then codes "int" else codes "uint") ++ decimal n
 
 type_back : (s : Bool) (n : ℕ) → 1 ≤ n → (s ≡ true → 2 ≤ n) → n ≤ 64 → type_of (text_by s n) ≡ Some (record { signed = s; bits = n })
 type_back true n some two most =
-    ap (λ (w : Option ℕ). or_else (option_map (λ m. record { signed = true; bits = m }) w) (type_behind false 1 (behind (codes "uint") (text_by true n)))) (width_back 2 n (two refl) most)
+    ap (λ (w : Option ℕ). or_else (option_map (λ m. record {
+      signed = true;
+      bits =
+          m;
+    }) w) (type_behind false 1 (behind (codes "uint") (text_by true n)))) (width_back 2 n (two refl) most)
 type_back false n some two most =
     ap (λ (w : Option ℕ). option_map (λ m. record { signed = false; bits = m }) w) (width_back 1 n some most)
 

@@ -70,18 +70,36 @@ passing_peak line s k rest pass =
     let same : peak (open_behind k (Sign s)) rest ≡ peak k rest = ap (λ (n : ℕ). peak n rest) (pass.level k) in
     omega arith
 
-pub takes_joined : (n m a b line : ℕ) (s : Symbol) (ts us : List Placed) → IsPassing s → Takes n m ts → Takes a b us → Takes (n + 1 + a) (max m b) (ts ++ symbol_on line s ∷ us)
+pub takes_joined : (n m a b line : ℕ) (s : Symbol) (ts us : List Placed) → IsPassing s → Takes n m ts → Takes a b us →
+    Takes (n + 1 + a) (max m b) (ts ++ symbol_on line s ∷ us)
 takes_joined n m a b line s ts us pass t u = record {
-  counts = λ rest closed. rw (append_assoc ts (symbol_on line s ∷ us) rest) (omega (arith, t.counts (symbol_on line s ∷ (us ++ rest)) (passing_closed line s (us ++ rest) pass), u.counts rest closed));
-  opens = λ k rest. rw (append_assoc ts (symbol_on line s ∷ us) rest) (omega (arith, t.opens k (symbol_on line s ∷ (us ++ rest)), t.closes k (symbol_on line s ∷ (us ++ rest)), passing_peak line s k (us ++ rest) pass, u.opens k rest));
-  closes = λ k rest. rw (append_assoc ts (symbol_on line s ∷ us) rest) (omega (arith, t.closes k (symbol_on line s ∷ (us ++ rest)), passing_peak line s k (us ++ rest) pass, u.closes k rest));
+  counts = λ rest closed. rw (append_assoc ts (symbol_on line s ∷ us) rest) (omega (
+    arith,
+    t.counts (symbol_on line s ∷ (us ++ rest)) (passing_closed line s (us ++ rest) pass),
+    u.counts rest closed,
+  ));
+  opens = λ k rest. rw (append_assoc ts (symbol_on line s ∷ us) rest) (omega (
+    arith,
+    t.opens k (symbol_on line s ∷ (us ++ rest)),
+    t.closes k (symbol_on line s ∷ (us ++ rest)),
+    passing_peak line s k (us ++ rest) pass,
+    u.opens k rest,
+  ));
+  closes = λ k rest. rw (append_assoc ts (symbol_on line s ∷ us) rest) (omega (
+    arith,
+    t.closes k (symbol_on line s ∷ (us ++ rest)),
+    passing_peak line s k (us ++ rest) pass,
+    u.closes k rest,
+  ));
 }
 
-pub takes_round : (n m opened closed : ℕ) (ts : List Placed) → Takes n m ts → Takes (n + 2) (m + 1) (symbol_on opened OpenRound ∷ (ts ++ symbol_on closed CloseRound ∷ []))
+pub takes_round : (n m opened closed : ℕ) (ts : List Placed) → Takes n m ts →
+    Takes (n + 2) (m + 1) (symbol_on opened OpenRound ∷ (ts ++ symbol_on closed CloseRound ∷ []))
 takes_round n m opened closed ts t = record {
   counts = λ rest shut. rw (append_assoc ts (symbol_on closed CloseRound ∷ []) rest) (omega (arith, t.counts (symbol_on closed CloseRound ∷ rest) refl));
   opens = λ k rest. rw (append_assoc ts (symbol_on closed CloseRound ∷ []) rest) (omega (arith, t.opens (suc k) (symbol_on closed CloseRound ∷ rest)));
-  closes = λ k rest. let less : suc k - 1 ≡ k = omega arith in let same : peak (suc k - 1) rest ≡ peak k rest = ap (λ (i : ℕ). peak i rest) less in rw (append_assoc ts (symbol_on closed CloseRound ∷ []) rest) (omega (arith, same, t.closes (suc k) (symbol_on closed CloseRound ∷ rest)));
+  closes = λ k rest. let less : suc k - 1 ≡ k = omega arith in let same : peak (suc k - 1) rest ≡ peak k rest = ap (λ (i : ℕ). peak i rest) less in
+      rw (append_assoc ts (symbol_on closed CloseRound ∷ []) rest) (omega (arith, same, t.closes (suc k) (symbol_on closed CloseRound ∷ rest)));
 }
 
 pub takes_sign : (n m line : ℕ) (s : Symbol) (ts : List Placed) → IsPassing s → Takes n m ts → Takes (1 + n) m (symbol_on line s ∷ ts)
@@ -98,7 +116,8 @@ takes_named n m line text ts e t = record {
   closes = λ k rest. omega (arith, t.closes k rest);
 }
 
-pub component_counts : (ts : List Placed) (d : ℤ) (rest : List Placed) → IsComponent ts d → 1 + counted_tokens_from in_offsets rest ≤ counted_tokens_from in_offsets (ts ++ rest)
+pub component_counts : (ts : List Placed) (d : ℤ) (rest : List Placed) → IsComponent ts d →
+    1 + counted_tokens_from in_offsets rest ≤ counted_tokens_from in_offsets (ts ++ rest)
 component_counts ts d rest (ahead line n) = omega arith
 component_counts ts d rest (back minus line n) = omega arith
 
@@ -106,32 +125,55 @@ pub component_peak : (ts : List Placed) (d : ℤ) (k : ℕ) (rest : List Placed)
 component_peak ts d k rest (ahead line n) = omega arith
 component_peak ts d k rest (back minus line n) = omega arith
 
-pub components_count : (ts : List Placed) (ds : List ℤ) (rest : List Placed) → AreParted IsComponent ts ds → 2 * length ds + counted_tokens_from in_offsets rest ≤ suc (counted_tokens_from in_offsets (ts ++ rest))
+pub components_count : (ts : List Placed) (ds : List ℤ) (rest : List Placed) → AreParted IsComponent ts ds →
+    2 * length ds + counted_tokens_from in_offsets rest ≤ suc (counted_tokens_from in_offsets (ts ++ rest))
 components_count ts ds rest (last_item {ts = us} {a = d} item) = omega (arith, component_counts us d rest item)
 components_count ts ds rest (item_before {ts = us} {us = vs} {a = d} {others = es} line item more) =
-    rw (append_assoc us (symbol_on line Comma ∷ vs) rest) (omega (arith, component_counts us d (symbol_on line Comma ∷ (vs ++ rest)) item, components_count vs es rest more))
+    rw (append_assoc us (symbol_on line Comma ∷ vs) rest) (omega (
+      arith,
+      component_counts us d (symbol_on line Comma ∷ (vs ++ rest)) item,
+      components_count vs es rest more,
+    ))
 
 pub components_peak : (ts : List Placed) (ds : List ℤ) (k : ℕ) (rest : List Placed) → AreParted IsComponent ts ds → peak k rest ≤ peak k (ts ++ rest)
 components_peak ts ds k rest (last_item {ts = us} {a = d} item) = component_peak us d k rest item
 components_peak ts ds k rest (item_before {ts = us} {us = vs} {a = d} {others = es} line item more) =
-    rw (append_assoc us (symbol_on line Comma ∷ vs) rest) (omega (arith, component_peak us d k (symbol_on line Comma ∷ (vs ++ rest)) item, components_peak vs es k rest more))
+    rw (append_assoc us (symbol_on line Comma ∷ vs) rest) (omega (
+      arith,
+      component_peak us d k (symbol_on line Comma ∷ (vs ++ rest)) item,
+      components_peak vs es k rest more,
+    ))
 
-pub takes_round_cell : (line opened closed : ℕ) (text : List ℕ) (ds : List ℤ) (inside : List Placed) → is_reserved text ≡ false → AreParted IsComponent inside ds → Takes (2 + 2 * length ds) 1 (name_on line text ∷ symbol_on opened OpenRound ∷ (inside ++ symbol_on closed CloseRound ∷ []))
+pub takes_round_cell : (line opened closed : ℕ) (text : List ℕ) (ds : List ℤ) (inside : List Placed) → is_reserved text ≡ false →
+    AreParted IsComponent inside ds →
+    Takes (2 + 2 * length ds) 1 (name_on line text ∷ symbol_on opened OpenRound ∷ (inside ++ symbol_on closed CloseRound ∷ []))
 takes_round_cell line opened closed text ds inside e are = record {
-  counts = λ rest shut. rw (append_assoc inside (symbol_on closed CloseRound ∷ []) rest) (omega (arith, free_counts line text (symbol_on opened OpenRound ∷ (inside ++ symbol_on closed CloseRound ∷ rest)) e, components_count inside ds (symbol_on closed CloseRound ∷ rest) are));
+  counts = λ rest shut. rw (append_assoc inside (symbol_on closed CloseRound ∷ []) rest) (omega (
+    arith,
+    free_counts line text (symbol_on opened OpenRound ∷ (inside ++ symbol_on closed CloseRound ∷ rest)) e,
+    components_count inside ds (symbol_on closed CloseRound ∷ rest) are,
+  ));
   opens = λ k rest. omega (arith, peak_least (suc k) ((inside ++ symbol_on closed CloseRound ∷ []) ++ rest));
-  closes = λ k rest. let less : suc k - 1 ≡ k = omega arith in let same : peak (suc k - 1) rest ≡ peak k rest = ap (λ (i : ℕ). peak i rest) less in rw (append_assoc inside (symbol_on closed CloseRound ∷ []) rest) (omega (arith, same, components_peak inside ds (suc k) (symbol_on closed CloseRound ∷ rest) are));
+  closes = λ k rest. let less : suc k - 1 ≡ k = omega arith in let same : peak (suc k - 1) rest ≡ peak k rest = ap (λ (i : ℕ). peak i rest) less in
+      rw (append_assoc inside (symbol_on closed CloseRound ∷ []) rest) (omega (
+        arith,
+        same,
+        components_peak inside ds (suc k) (symbol_on closed CloseRound ∷ rest) are,
+      ));
 }
 
 pub takes_cell : (w : Word) (ts : List Placed) (ds : List ℤ) → is_reserved w.text ≡ false → AreOffsets ts ds → Takes (2 + 2 * length ds) 1 (word_on w ∷ ts)
 takes_cell w ts ds e are =
-    subst (λ (us : List Placed). Takes (2 + 2 * length ds) 1 (word_on w ∷ us)) (sym are.is) (takes_round_cell w.line are.opened are.closed w.text ds are.inside e are.item)
+    subst (λ (us : List Placed). Takes (2 + 2 * length ds) 1 (word_on w ∷ us)) (sym are.is)
+    (takes_round_cell w.line are.opened are.closed w.text ds are.inside e are.item)
 
-pub indexes_count : (ts : List Placed) (ks : List ℕ) (rest : List Placed) → AreIndexes ts ks → 3 * length ks + counted_tokens_from outside rest ≤ counted_tokens_from outside (ts ++ rest)
+pub indexes_count : (ts : List Placed) (ks : List ℕ) (rest : List Placed) → AreIndexes ts ks →
+    3 * length ks + counted_tokens_from outside rest ≤ counted_tokens_from outside (ts ++ rest)
 indexes_count ts ks rest no_index = omega arith
 indexes_count ts ks rest (index_before {ts = us} {indexes = js} opened line n closed more) = omega (arith, indexes_count us js rest more)
 
-pub named_count : (ts : List Placed) (ks : List ℕ) (rest : List Placed) → Closed rest → AreIndexes ts ks → 3 * length ks + counted_tokens_from outside rest ≤ counted_tokens_from behind_name (ts ++ rest)
+pub named_count : (ts : List Placed) (ks : List ℕ) (rest : List Placed) → Closed rest → AreIndexes ts ks →
+    3 * length ks + counted_tokens_from outside rest ≤ counted_tokens_from behind_name (ts ++ rest)
 named_count ts ks rest closed no_index = omega arith
 named_count ts ks rest closed (index_before {ts = us} {indexes = js} opened line n shut more) = omega (arith, indexes_count us js rest more)
 
@@ -146,7 +188,8 @@ pub indexes_open : (ts : List Placed) (ks : List ℕ) (k : ℕ) (rest : List Pla
 indexes_open ts ks k rest no_index = omega (arith, peak_least k rest)
 indexes_open ts ks k rest (index_before {ts = us} {indexes = js} opened line n closed more) = grind (arith, nat_tests)
 
-pub takes_value : (w : Word) (ts : List Placed) (ks : List ℕ) → is_reserved w.text ≡ false → AreIndexes ts ks → Takes (1 + 3 * length ks) (one_if_some (length ks)) (word_on w ∷ ts)
+pub takes_value : (w : Word) (ts : List Placed) (ks : List ℕ) → is_reserved w.text ≡ false → AreIndexes ts ks →
+    Takes (1 + 3 * length ks) (one_if_some (length ks)) (word_on w ∷ ts)
 takes_value w ts ks e are = record {
   counts = λ rest closed. omega (arith, free_counts w.line w.text (ts ++ rest) e, named_count ts ks rest closed are);
   opens = λ k rest. omega (arith, indexes_open ts ks k rest are);
