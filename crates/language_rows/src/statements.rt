@@ -87,7 +87,7 @@ fn statements_of_texts(rt: HostRuntime) -> Result<(), Fail> {
         ("", ""),
         ("# only a comment", ""),
         (
-            "kernel: avg\nburst width: 8\nunroll factor: 1\ninput uint8: a(*)\noutput uint8: o(0) = (a(-1) + a(0) + a(1)) / 3\n",
+            "kernel: avg\nburst width: 8\nunroll factor: 1\ninput uint8: a(*)\noutput uint8: o(0) = a(-1) / 3\n",
             "kernel@1 avg; burst width@2 8; unroll factor@3 1; input uint8 a *; output uint8 o@5 0; ",
         ),
         (
@@ -169,7 +169,10 @@ fn refusals(rt: HostRuntime) -> Result<(), Fail> {
         assert_eq!(rt; refused_at(alloc, text), Some(line), "{text}");
     }
     for (brackets, line) in [(64, 3), (65, 2)] {
-        assert_eq!(rt; refused_at(alloc, deep(alloc, brackets)?.as_str()), Some(line));
+        assert_eq!(rt;
+            refused_at(alloc, deep(alloc, brackets)?.as_str()),
+            Some(line)
+        );
     }
     for (fail, wanted) in [
         (SyntaxFail::Refused(7), "line 7: syntax"),
