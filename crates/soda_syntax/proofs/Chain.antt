@@ -158,7 +158,20 @@ wrong_front ts ss front rest t reads stop r e g =
   where
     as_large : IsLargeLine (front ++ t ∷ []) → IsTooLarge (front ++ t ∷ [])
     as_large l =
-        record { part = l.part; within = record { before = []; statements = []; head = l.head; is = l.is; whole = no_statement; left = l.left; begun = l.begun }; large = l.large }
+        record {
+          part = l.part;
+          within = record {
+            before = [];
+            statements = [];
+            head = l.head;
+            is = l.is;
+            whole = no_statement;
+            left = l.left;
+            begun =
+                l.begun;
+          };
+          large = l.large;
+        }
 
 -- a text that stops at its end is no text
 pub no_end : (ts : List Placed) (ss : List PlainStatement) (front : List Placed) → Reads ts ss front → IsStop front [] → (front ≡ [] → ⊥)

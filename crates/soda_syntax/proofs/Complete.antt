@@ -1,5 +1,5 @@
 -- Each statement of the grammar is read by the steps.
-use Rattle.std.proofs.Common.{◌≡◌, ◌⊎◌, inl, inr, ℕ, ◌+◌, ◌≤◌, ◌<◌, true, false, nat_lt, List, [], ◌∷◌, ◌++◌, length, Option, Some, ℤ, refl, sym, ◌∙◌, ap, arith, if◌then◌else◌, length-append, append-nil, append_assoc}
+use Rattle.std.proofs.Common.{◌≡◌, ◌⊎◌, inl, inr, ℕ, ◌+◌, ◌≤◌, true, false, List, [], ◌∷◌, ◌++◌, length, Option, Some, ℤ, refl, sym, ◌∙◌, ap, arith, if◌then◌else◌, length-append, append-nil, append_assoc}
 use Rattle.std.proofs.lemmas.Bool.{lt-ltb}
 use Rattle.soda_words.specs.declared.symbol.Symbol.TheVariants.{CloseRound, CloseSquare, Colon, EqualSign}
 use Rattle.soda_words.specs.declared.token.Placed.{Placed}
@@ -199,6 +199,26 @@ complete (an_input {bank} {ts} {tile} line colon ty name banked may t) =
       is = refl;
     })
 complete (a_local {ts} {us} {left} {a} ty name h f) =
-    inr (record { head = ts; part = us; left = record { role = Middle; ty = ty; name = name; offsets = left }; formula = a; is = refl; read = local_read ts ty name left h; whole = f; says = refl })
+    inr (record {
+      head = ts;
+      part = us;
+      left = record { role = Middle; ty = ty; name = name; offsets = left };
+      formula = a;
+      is = refl;
+      read =
+          local_read ts ty name left h;
+      whole = f;
+      says = refl;
+    })
 complete (an_output {ts} {us} {left} {a} ty name h f) =
-    inr (record { head = ts; part = us; left = record { role = Target; ty = ty; name = name; offsets = left }; formula = a; is = refl; read = output_read ts ty name left h; whole = f; says = refl })
+    inr (record {
+      head = ts;
+      part = us;
+      left = record { role = Target; ty = ty; name = name; offsets = left };
+      formula = a;
+      is = refl;
+      read =
+          output_read ts ty name left h;
+      whole = f;
+      says = refl;
+    })

@@ -28,7 +28,8 @@ returns-in-Wrong-clause-refused c =
     let stops : StopsStatement (drop c.loop-at.at c.args.tokens.now) c.in-Wrong.size = subst (λ us. StopsStatement us c.in-Wrong.size)
     (take_rest c.args.tokens.now c.loop-at.at) (rw c.in-Wrong.is at c.in-Err.ensures.wrong) in
     refused c.args.tokens.now
-    (map plain_statement c.loop-at.found.items) c.loop-at.at c.in-Wrong.size c.args.end c.line_at.result c.loop-at-test.true c.loop-at.invariant.reads stops c.line_at.ensures
+    (map plain_statement c.loop-at.found.items) c.loop-at.at c.in-Wrong.size c.args.end c.line_at.result c.loop-at-test.true c.loop-at.invariant.reads
+    stops c.line_at.ensures
 
 pub returns-clause-found : goal.returns-clause-found
 returns-clause-found c =
