@@ -1,5 +1,5 @@
-//! Programs as data: which parts make a program, which tensors can be placed, how many live tensors and reads there are, and
-//! what is computed.
+//! Programs as data: which parts make a program, which tensors can be placed, how many live tensors and reads there
+//! are, and what is computed.
 
 ghost use Rattle.std.specs.Prelude.{◌≡◌, [], ◌∷◌, IfOk, ℤ, ℕ, List, pos, codes};
 ghost use Rattle.soda_words.specs.declared.operators.BinOp.TheVariants.{Add};
@@ -13,7 +13,7 @@ use arrayvec::ArrayVec;
 use int_types::in_range;
 use soda_eval::*;
 use soda_ir::*;
-use soda_words::{BinOp, Ty, UnOp};
+use soda_words::{BinOp, MOST_VALUES, Ty, UnOp};
 use sqlite_items::{Boxed, Items};
 use std::alloc::Global;
 use std::test::Fail;
@@ -331,8 +331,8 @@ const MADE: [(Change, u64, bool); 58] = [
     (Change::OutputAlone, 1, false),
     (Change::Many(510), 1, true),
     (Change::Many(511), 1, false),
-    (Change::Params(65_536, 65_536), 1, true),
-    (Change::Params(65_536, 65_535), 1, false),
+    (Change::Params(MOST_VALUES, MOST_VALUES), 1, true),
+    (Change::Params(MOST_VALUES, 65_535), 1, false),
     (Change::Params(65_537, 65_537), 1, false),
     // Over several iterations.
     (Change::InputType(7), 2, false),
@@ -350,7 +350,11 @@ fn programs_are_made(rt: HostRuntime) -> Result<(), Fail> {
     let alloc = rt.alloc();
     let mut row = 0_u64;
     for (change, iterate, made) in MADE {
-        assert_eq!(rt; is_made(alloc, parts(alloc, change, iterate)?)?, made, "row {row}");
+        assert_eq!(rt;
+            is_made(alloc, parts(alloc, change, iterate)?)?,
+            made,
+            "row {row}"
+        );
         row = row.saturating_add(1);
     }
     Ok(())
@@ -542,9 +546,7 @@ fn bytes_out(alloc: Global, formula: Expr) -> Result<Tensor, NoMemory>
 }
 
 fn bytes_program(alloc: Global, formula: Expr) -> Result<Parts, NoMemory>
-    ensures {
-        IfOk result (λ p. plain p ≡ sum_program (codes "sum3") 8 1 (codes "a") (codes "o") (formula_of formula))
-    }
+    ensures { IfOk result (λ p. plain p ≡ sum_program (codes "sum3") 8 1 (codes "a") (codes "o") (formula_of formula)) }
 {
     let output = bytes_out(alloc, formula);
     let mut tensors = Items::new(alloc);
