@@ -1,5 +1,5 @@
-//! Programs as data: which parts make a program, which tensors can be placed, how many live tensors and reads there are, and
-//! what is computed.
+//! Programs as data: which parts make a program, which tensors can be placed, how many live tensors and reads there
+//! are, and what is computed.
 
 ghost use Rattle.std.specs.Prelude.{◌≡◌, [], ◌∷◌, IfOk, ℤ, ℕ, List, pos, codes};
 ghost use Rattle.soda_words.specs.declared.operators.BinOp.TheVariants.{Add};
@@ -13,7 +13,7 @@ use arrayvec::ArrayVec;
 use int_types::in_range;
 use soda_eval::*;
 use soda_ir::*;
-use soda_words::{BinOp, Ty, UnOp};
+use soda_words::{BinOp, MOST_VALUES, Ty, UnOp};
 use sqlite_items::{Boxed, Items};
 use std::alloc::Global;
 use std::test::Fail;
@@ -331,8 +331,8 @@ const MADE: [(Change, u64, bool); 58] = [
     (Change::OutputAlone, 1, false),
     (Change::Many(510), 1, true),
     (Change::Many(511), 1, false),
-    (Change::Params(65_536, 65_536), 1, true),
-    (Change::Params(65_536, 65_535), 1, false),
+    (Change::Params(MOST_VALUES, MOST_VALUES), 1, true),
+    (Change::Params(MOST_VALUES, 65_535), 1, false),
     (Change::Params(65_537, 65_537), 1, false),
     // Over several iterations.
     (Change::InputType(7), 2, false),
