@@ -71,7 +71,10 @@ fn main(rt: HostRuntime) -> Result<()> {
     let text = asked_text(alloc, &words)?;
     let bytes = text.len();
     match parse(alloc, text.as_bytes(), u32::MAX) {
-        Ok(_) => println!(rt; "bytes {bytes} accepted")?,
+        Ok(program) => {
+            drop(program);
+            println!(rt; "bytes {bytes} accepted")?
+        }
         Err(ParseFail::Refused(refusal)) => println!(rt; "bytes {bytes} {refusal:?}")?,
         Err(ParseFail::Memory) => bail!("out of memory"),
     }

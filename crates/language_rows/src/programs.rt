@@ -350,7 +350,11 @@ fn programs_are_made(rt: HostRuntime) -> Result<(), Fail> {
     let alloc = rt.alloc();
     let mut row = 0_u64;
     for (change, iterate, made) in MADE {
-        assert_eq!(rt; is_made(alloc, parts(alloc, change, iterate)?)?, made, "row {row}");
+        assert_eq!(rt;
+            is_made(alloc, parts(alloc, change, iterate)?)?,
+            made,
+            "row {row}"
+        );
         row = row.saturating_add(1);
     }
     Ok(())
@@ -542,9 +546,7 @@ fn bytes_out(alloc: Global, formula: Expr) -> Result<Tensor, NoMemory>
 }
 
 fn bytes_program(alloc: Global, formula: Expr) -> Result<Parts, NoMemory>
-    ensures {
-        IfOk result (λ p. plain p ≡ sum_program (codes "sum3") 8 1 (codes "a") (codes "o") (formula_of formula))
-    }
+    ensures { IfOk result (λ p. plain p ≡ sum_program (codes "sum3") 8 1 (codes "a") (codes "o") (formula_of formula)) }
 {
     let output = bytes_out(alloc, formula);
     let mut tensors = Items::new(alloc);

@@ -169,7 +169,10 @@ fn refusals(rt: HostRuntime) -> Result<(), Fail> {
         assert_eq!(rt; refused_at(alloc, text), Some(line), "{text}");
     }
     for (brackets, line) in [(64, 3), (65, 2)] {
-        assert_eq!(rt; refused_at(alloc, deep(alloc, brackets)?.as_str()), Some(line));
+        assert_eq!(rt;
+            refused_at(alloc, deep(alloc, brackets)?.as_str()),
+            Some(line)
+        );
     }
     for (fail, wanted) in [
         (SyntaxFail::Refused(7), "line 7: syntax"),

@@ -30,18 +30,23 @@ pub accepted_text : (bytes : List ℕ) (p : PlainProgram) → IsValid p → IsSi
 accepted_text bytes p v s e = subst (λ (w : List ℕ). Accepts 67108864 w p) (sym e) (accepted p v s)
 
 -- no other program has this text
-pub alone : (bytes : List ℕ) (p q : PlainProgram) → IsValid p → IsSizedProgram p → bytes ≡ canonical p → IsValid q → IsSizedProgram q → canonical q ≡ bytes → q ≡ p
+pub alone : (bytes : List ℕ) (p q : PlainProgram) → IsValid p → IsSizedProgram p → bytes ≡ canonical p → IsValid q → IsSizedProgram q →
+    canonical q ≡ bytes → q ≡ p
 alone bytes p q v s e w t f = program_is_one 67108864 bytes q p (accepted_text bytes q w t (sym f)) (accepted_text bytes p v s e)
 
 -- the same of an answer
-pub text_read_back : {A E : Type 0} (bytes_of : A → List ℕ) (r : Result A E) (p : PlainProgram) → IfOk r (λ t. bytes_of t ≡ canonical p) → IfOk r (λ t. IsValid p) → IfOk r (λ t. IsSizedProgram p) → IfOk r (λ t. Accepts 67108864 (bytes_of t) p)
+pub text_read_back : {A E : Type 0} (bytes_of : A → List ℕ) (r : Result A E) (p : PlainProgram) → IfOk r (λ t. bytes_of t ≡ canonical p) →
+    IfOk r (λ t. IsValid p) → IfOk r (λ t. IsSizedProgram p) → IfOk r (λ t. Accepts 67108864 (bytes_of t) p)
 text_read_back bytes_of (Ok t) p e v s = accepted_text (bytes_of t) p v s e
 text_read_back bytes_of (Err f) p e v s = tt
 
-pub text_of_one : {A E : Type 0} (bytes_of : A → List ℕ) (r : Result A E) (p : PlainProgram) → IfOk r (λ t. bytes_of t ≡ canonical p) → IfOk r (λ t. IsValid p) → IfOk r (λ t. IsSizedProgram p) → IfOk r (λ t. (q : PlainProgram) → Accepts 67108864 (bytes_of t) q → q ≡ p)
+pub text_of_one : {A E : Type 0} (bytes_of : A → List ℕ) (r : Result A E) (p : PlainProgram) → IfOk r (λ t. bytes_of t ≡ canonical p) →
+    IfOk r (λ t. IsValid p) → IfOk r (λ t. IsSizedProgram p) → IfOk r (λ t. (q : PlainProgram) → Accepts 67108864 (bytes_of t) q → q ≡ p)
 text_of_one bytes_of (Ok t) p e v s = λ q a. program_is_one 67108864 (bytes_of t) q p a (accepted_text (bytes_of t) p v s e)
 text_of_one bytes_of (Err f) p e v s = tt
 
-pub text_alone : {A E : Type 0} (bytes_of : A → List ℕ) (r : Result A E) (p : PlainProgram) → IfOk r (λ t. bytes_of t ≡ canonical p) → IfOk r (λ t. IsValid p) → IfOk r (λ t. IsSizedProgram p) → IfOk r (λ t. (q : PlainProgram) → IsValid q → IsSizedProgram q → canonical q ≡ bytes_of t → q ≡ p)
+pub text_alone : {A E : Type 0} (bytes_of : A → List ℕ) (r : Result A E) (p : PlainProgram) → IfOk r (λ t. bytes_of t ≡ canonical p) →
+    IfOk r (λ t. IsValid p) → IfOk r (λ t. IsSizedProgram p) → IfOk r (λ t. (q : PlainProgram) → IsValid q → IsSizedProgram q → canonical q ≡ bytes_of t →
+    q ≡ p)
 text_alone bytes_of (Ok t) p e v s = λ q w u f. alone (bytes_of t) p q v s e w u f
 text_alone bytes_of (Err f) p e v s = tt

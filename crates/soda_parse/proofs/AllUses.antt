@@ -25,14 +25,17 @@ use Rattle.soda_formula.specs.declared.statement.InputLine.{InputLine}
 use Rattle.soda_formula.specs.declared.statement.ParamLine.{ParamLine}
 use Rattle.soda_formula.specs.declared.statement.Size.{Size}
 
-past_sizes : (o : Outline) (sizes : List Size) (ys : List Site) → find (is_wrong_site o) (map (λ s. SiteSize s) sizes ++ ys) ≡ None → find (is_wrong_site o) ys ≡ None
+past_sizes : (o : Outline) (sizes : List Size) (ys : List Site) → find (is_wrong_site o) (map (λ s. SiteSize s) sizes ++ ys) ≡ None →
+    find (is_wrong_site o) ys ≡ None
 past_sizes o sizes ys e = (none_in_both (is_wrong_site o) (map (λ s. SiteSize s) sizes) ys e).1
 
-in_line : (o : Outline) (f : PlainFormulaLine) (ys : List Site) → find (is_wrong_site o) (Left f.name f.left ∷ (uses_in f.formula ++ ys)) ≡ None → (find (is_wrong_site o) (uses_in f.formula) ≡ None) × (find (is_wrong_site o) ys ≡ None)
+in_line : (o : Outline) (f : PlainFormulaLine) (ys : List Site) → find (is_wrong_site o) (Left f.name f.left ∷ (uses_in f.formula ++ ys)) ≡ None →
+    (find (is_wrong_site o) (uses_in f.formula) ≡ None) × (find (is_wrong_site o) ys ≡ None)
 in_line o f ys e =
     none_in_both (is_wrong_site o) (uses_in f.formula) ys (none_here (is_wrong_site o) (Left f.name f.left) (uses_in f.formula ++ ys) e).1
 
-uses_there : (o : Outline) (p : PlainProgram) (dims : ℕ) (ss : List PlainStatement) → Fits o p dims → HasParams o p → AllFine o dims ss → find (is_wrong_site o) (outline_of ss).sites ≡ None → list_all (has_good_uses p) (flat_map (tensors_in o) ss) ≡ true
+uses_there : (o : Outline) (p : PlainProgram) (dims : ℕ) (ss : List PlainStatement) → Fits o p dims → HasParams o p → AllFine o dims ss →
+    find (is_wrong_site o) (outline_of ss).sites ≡ None → list_all (has_good_uses p) (flat_map (tensors_in o) ss) ≡ true
 unfolding outline_of outline_in
 uses_there o p dims [] fits h fine e = refl
 uses_there o p dims (kernel l w ∷ ss) fits h fine e = uses_there o p dims ss fits h fine e
@@ -52,7 +55,8 @@ uses_there o p dims (output f ∷ ss) fits h fine e =
     rw (good_uses o p dims f.left f.formula fits h fine.0 both.0) (uses_there o p dims ss fits h fine.1 both.1)
 
 -- all formulas name what is there
-pub all_uses : (o : Outline) (p : PlainProgram) (dims : ℕ) (is : List InputLine) (ss : List PlainStatement) → Fits o p dims → HasParams o p → AllFine o dims ss → find (is_wrong_site o) (outline_of ss).sites ≡ None → list_all (has_good_uses p) (map input_of is ++ flat_map (tensors_in o) ss) ≡ true
+pub all_uses : (o : Outline) (p : PlainProgram) (dims : ℕ) (is : List InputLine) (ss : List PlainStatement) → Fits o p dims → HasParams o p →
+    AllFine o dims ss → find (is_wrong_site o) (outline_of ss).sites ≡ None → list_all (has_good_uses p) (map input_of is ++ flat_map (tensors_in o) ss) ≡ true
 all_uses o p dims [] ss fits h fine e = uses_there o p dims ss fits h fine e
 all_uses o p dims (i ∷ is) ss fits h fine e = all_uses o p dims is ss fits h fine e
 
@@ -81,7 +85,8 @@ placed_once p zero x i lt e = absurd (omega arith)
 placed_once p (suc n) x i lt e = tensor_there (λ t. by_formula t.formula true (every (λ y o. has_place p n y))) p x (input_of i) e
 
 -- an input is placed
-pub input_placed : (p : PlainProgram) (is : List InputLine) (ts : List PlainTensor) (x : ℕ) → p.tensors ≡ map input_of is ++ ts → x < length is → 0 < length p.tensors → can_be_placed p x ≡ true
+pub input_placed : (p : PlainProgram) (is : List InputLine) (ts : List PlainTensor) (x : ℕ) → p.tensors ≡ map input_of is ++ ts → x < length is →
+    0 < length p.tensors → can_be_placed p x ≡ true
 input_placed p is ts x e lt some =
     let there = input_at is ts x lt in
     placed_once p (length p.tensors) x there.0 some (ap (λ (us : List PlainTensor). slice_get us x) e ∙ there.1)

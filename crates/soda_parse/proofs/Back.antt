@@ -21,6 +21,7 @@ use Rattle.soda_words.specs.declared.token.Word.{Word}
 use Rattle.soda_words.specs.Names.{is_word}
 use Rattle.soda_parse.proofs.Lookups.{place_in_two, place_mapped}
 use Rattle.soda_parse.proofs.Statements.{AreDefined, none_defined, a_local, an_output, AreOrdered, no_input, an_input, declared_from, param_on, tensors_from, tile_of, word, written, zeros}
+use Rattle.std.proofs.lemmas.List.{length-map}
 
 -- the lines of params, from a line on
 abbrev pub param_lines : ℕ → List PlainParam → List ParamLine
@@ -39,7 +40,8 @@ tensor_params p line (no_input d) = defined_params p line d
 tensor_params p line (an_input n ty more) = tensor_params p (suc line) more
 
 -- the params of the outline
-pub outline_params : (p : PlainProgram) (line : ℕ) (qs : List PlainParam) {ts : List PlainTensor} → AreOrdered ts → (outline_of (declared_from p line qs ts)).params ≡ param_lines line qs
+pub outline_params : (p : PlainProgram) (line : ℕ) (qs : List PlainParam) {ts : List PlainTensor} → AreOrdered ts →
+    (outline_of (declared_from p line qs ts)).params ≡ param_lines line qs
 unfolding outline_of outline_in
 outline_params p line [] d = tensor_params p line d
 outline_params p line (q ∷ qs) d = ap (λ (rs : List ParamLine). param_on line q ∷ rs) (outline_params p (suc line) qs d)
@@ -55,13 +57,15 @@ no_sources none_defined = refl
 no_sources (a_local n ty f more) = no_sources more
 no_sources (an_output n ty f more) = no_sources more
 
-tile_first : (p : PlainProgram) (line : ℕ) {ts : List PlainTensor} → AreOrdered ts → list_any (λ t. is_input_role t.role) ts ≡ true → first_tile (outline_of (tensors_from p line ts)).inputs ≡ Some (tile_of p)
+tile_first : (p : PlainProgram) (line : ℕ) {ts : List PlainTensor} → AreOrdered ts → list_any (λ t. is_input_role t.role) ts ≡ true →
+    first_tile (outline_of (tensors_from p line ts)).inputs ≡ Some (tile_of p)
 unfolding outline_of outline_in
 tile_first p line (no_input d) h = let none = no_sources d in cc
 tile_first p line (an_input n ty more) h = refl
 
 -- the first tile of the outline
-pub outline_tile : (p : PlainProgram) (line : ℕ) (qs : List PlainParam) {ts : List PlainTensor} → AreOrdered ts → list_any (λ t. is_input_role t.role) ts ≡ true → first_tile (outline_of (declared_from p line qs ts)).inputs ≡ Some (tile_of p)
+pub outline_tile : (p : PlainProgram) (line : ℕ) (qs : List PlainParam) {ts : List PlainTensor} → AreOrdered ts →
+    list_any (λ t. is_input_role t.role) ts ≡ true → first_tile (outline_of (declared_from p line qs ts)).inputs ≡ Some (tile_of p)
 unfolding outline_of outline_in
 outline_tile p line [] d h = tile_first p line d h
 outline_tile p line (q ∷ qs) d h = outline_tile p (suc line) qs d h
@@ -84,7 +88,21 @@ AreTyped (q ∷ qs) = IsTyped q.ty × AreTyped qs
 
 param_back : (line : ℕ) (q : PlainParam) → IsTyped q.ty → param_of (param_on line q) ≡ q
 param_back line q h =
-    let one : ◌≡◌ {A = PlainParam} (param_of (param_on line q)) (record { name = q.name; ty = q.ty; sizes = map (λ (s : Size). s.value) (map (λ n. record { line = line; value = n }) q.sizes) }) = ap (λ (ty : IntType). record { name = q.name; ty = ty; sizes = map (λ (s : Size). s.value) (map (λ n. record { line = line; value = n }) q.sizes) }) (h line) in
+    let one : ◌≡◌ {A = PlainParam} (param_of (param_on line q)) (record {
+      name = q.name;
+      ty = q.ty;
+      sizes =
+          map (λ (s : Size). s.value) (map (λ n. record { line = line; value = n }) q.sizes);
+    }) =
+    ap (λ (ty : IntType). record {
+      name = q.name;
+      ty = ty;
+      sizes = map (λ (s : Size). s.value) (map (λ n. record {
+        line = line;
+        value =
+            n;
+      }) q.sizes);
+    }) (h line) in
     one ∙ ap (λ (ns : List ℕ). record { name = q.name; ty = q.ty; sizes = ns }) (sizes_back line q.sizes)
 
 pub params_back : (line : ℕ) (qs : List PlainParam) → AreTyped qs → map param_of (param_lines line qs) ≡ qs
@@ -105,10 +123,18 @@ abbrev pub AreBack : Outline → PlainProgram → List PlainTensor → Type 0
 AreBack o p [] = Unit {0}
 AreBack o p (t ∷ ts) = IsTensorBack o p t × AreBack o p ts
 
-made : (n : List ℕ) (role : _) (ty uy : IntType) (f g : Formula) (rest ts : List PlainTensor) → uy ≡ ty → g ≡ f → rest ≡ ts → ◌≡◌ {A = List PlainTensor} (record { name = n; ty = uy; role = role; formula = Some g } ∷ rest) (record { name = n; ty = ty; role = role; formula = Some f } ∷ ts)
+made : (n : List ℕ) (role : _) (ty uy : IntType) (f g : Formula) (rest ts : List PlainTensor) → uy ≡ ty → g ≡ f → rest ≡ ts →
+    ◌≡◌ {A = List PlainTensor} (record { name = n; ty = uy; role = role; formula = Some g } ∷ rest) (record {
+      name = n;
+      ty = ty;
+      role = role;
+      formula =
+          Some f;
+    } ∷ ts)
 made n role ty uy f g rest ts a b c = rw (a, b, c) refl
 
-defined_back : (o : Outline) (p : PlainProgram) (line : ℕ) {ts : List PlainTensor} → AreDefined ts → AreBack o p ts → flat_map (tensors_in o) (tensors_from p line ts) ≡ ts
+defined_back : (o : Outline) (p : PlainProgram) (line : ℕ) {ts : List PlainTensor} → AreDefined ts → AreBack o p ts →
+    flat_map (tensors_in o) (tensors_from p line ts) ≡ ts
 defined_back o p line none_defined h = refl
 defined_back o p line (a_local {ts} n ty f more) h =
     made n Local ty _ f _ _ ts (h.0.0 line) (h.0.1 line) (defined_back o p (suc line) more h.1)
@@ -118,16 +144,19 @@ defined_back o p line (an_output {ts} n ty f more) h =
 abbrev source : List ℕ → IntType → PlainTensor
 source n ty = record { name = n; ty = ty; role = Input; formula = None }
 
-tensors_back : (o : Outline) (p : PlainProgram) (line : ℕ) {ts : List PlainTensor} → AreOrdered ts → AreBack o p ts → map input_of (outline_of (tensors_from p line ts)).inputs ++ flat_map (tensors_in o) (tensors_from p line ts) ≡ ts
+tensors_back : (o : Outline) (p : PlainProgram) (line : ℕ) {ts : List PlainTensor} → AreOrdered ts → AreBack o p ts →
+    map input_of (outline_of (tensors_from p line ts)).inputs ++ flat_map (tensors_in o) (tensors_from p line ts) ≡ ts
 unfolding outline_of outline_in
 tensors_back o p line {ts} (no_input d) h =
     ap (λ (is : List InputLine). map input_of is ++ flat_map (tensors_in o) (tensors_from p line ts)) (defined_inputs p line d) ∙ defined_back o p line d h
 tensors_back o p line (an_input {ts} n ty more) h =
-    ap (λ (u : IntType). source n u ∷ (map input_of (outline_of (tensors_from p (suc line) ts)).inputs ++ flat_map (tensors_in o) (tensors_from p (suc line) ts))) (h.0.0 line)
+    ap (λ (u : IntType). source n u ∷ (map input_of (outline_of (tensors_from p (suc line) ts)).inputs ++ flat_map (tensors_in o)
+    (tensors_from p (suc line) ts))) (h.0.0 line)
     ∙ ap (λ (us : List PlainTensor). source n ty ∷ us) (tensors_back o p (suc line) more h.1)
 
 -- the tensors of the statements
-pub outline_tensors : (o : Outline) (p : PlainProgram) (line : ℕ) (qs : List PlainParam) {ts : List PlainTensor} → AreOrdered ts → AreBack o p ts → map input_of (outline_of (declared_from p line qs ts)).inputs ++ flat_map (tensors_in o) (declared_from p line qs ts) ≡ ts
+pub outline_tensors : (o : Outline) (p : PlainProgram) (line : ℕ) (qs : List PlainParam) {ts : List PlainTensor} → AreOrdered ts → AreBack o p ts →
+    map input_of (outline_of (declared_from p line qs ts)).inputs ++ flat_map (tensors_in o) (declared_from p line qs ts) ≡ ts
 unfolding outline_of outline_in
 outline_tensors o p line [] d h = tensors_back o p line d h
 outline_tensors o p line (q ∷ qs) d h = outline_tensors o p (suc line) qs d h
@@ -136,27 +165,27 @@ outline_tensors o p line (q ∷ qs) d h = outline_tensors o p (suc line) qs d h
 abbrev pub tensor_names : Outline → List (List ℕ)
 tensor_names o = map (λ (i : InputLine). i.name.text) o.inputs ++ map (λ (d : Defined). d.name.text) o.defined
 
-defined_names : (p : PlainProgram) (line : ℕ) {ts : List PlainTensor} → AreDefined ts → map (λ (d : Defined). d.name.text) (outline_of (tensors_from p line ts)).defined ≡ map (λ (t : PlainTensor). t.name) ts
+defined_names : (p : PlainProgram) (line : ℕ) {ts : List PlainTensor} → AreDefined ts →
+    map (λ (d : Defined). d.name.text) (outline_of (tensors_from p line ts)).defined ≡ map (λ (t : PlainTensor). t.name) ts
 unfolding outline_of outline_in
 defined_names p line none_defined = refl
 defined_names p line (a_local n ty f more) = ap (λ (ws : List (List ℕ)). n ∷ ws) (defined_names p (suc line) more)
 defined_names p line (an_output n ty f more) = ap (λ (ws : List (List ℕ)). n ∷ ws) (defined_names p (suc line) more)
 
-ordered_names : (p : PlainProgram) (line : ℕ) {ts : List PlainTensor} → AreOrdered ts → tensor_names (outline_of (tensors_from p line ts)) ≡ map (λ (t : PlainTensor). t.name) ts
+ordered_names : (p : PlainProgram) (line : ℕ) {ts : List PlainTensor} → AreOrdered ts →
+    tensor_names (outline_of (tensors_from p line ts)) ≡ map (λ (t : PlainTensor). t.name) ts
 unfolding outline_of outline_in
 ordered_names p line {ts} (no_input d) =
-    ap (λ (is : List InputLine). map (λ (i : InputLine). i.name.text) is ++ map (λ (d : Defined). d.name.text) (outline_of (tensors_from p line ts)).defined) (defined_inputs p line d) ∙ defined_names p line d
+    ap (λ (is : List InputLine). map (λ (i : InputLine). i.name.text) is ++ map (λ (d : Defined). d.name.text)
+    (outline_of (tensors_from p line ts)).defined) (defined_inputs p line d) ∙ defined_names p line d
 ordered_names p line (an_input n ty more) = ap (λ (ws : List (List ℕ)). n ∷ ws) (ordered_names p (suc line) more)
 
 -- the tensors' names
-pub outline_names : (p : PlainProgram) (line : ℕ) (qs : List PlainParam) {ts : List PlainTensor} → AreOrdered ts → tensor_names (outline_of (declared_from p line qs ts)) ≡ map (λ (t : PlainTensor). t.name) ts
+pub outline_names : (p : PlainProgram) (line : ℕ) (qs : List PlainParam) {ts : List PlainTensor} → AreOrdered ts →
+    tensor_names (outline_of (declared_from p line qs ts)) ≡ map (λ (t : PlainTensor). t.name) ts
 unfolding outline_of outline_in
 outline_names p line [] d = ordered_names p line d
 outline_names p line (q ∷ qs) d = outline_names p (suc line) qs d
-
-length_mapped : {A B : Type 0} (f : A → B) (xs : List A) → length (map f xs) ≡ length xs
-length_mapped f [] = refl
-length_mapped f (x ∷ xs) = ap suc (length_mapped f xs)
 
 -- the number of a tensor is the place of its name
 pub number_is : (o : Outline) (w : Word) → tensor_number o w ≡ position (is_word w.text) (tensor_names o)
@@ -164,4 +193,4 @@ number_is o w =
     let a = place_mapped (is_word w.text) (λ (i : InputLine). i.name.text) o.inputs in
     let b = place_mapped (is_word w.text) (λ (d : Defined). d.name.text) o.defined in
     let both = place_in_two (is_word w.text) (map (λ (i : InputLine). i.name.text) o.inputs) (map (λ (d : Defined). d.name.text) o.defined) in
-    rw (a, b, sym (length_mapped (λ (i : InputLine). i.name.text) o.inputs)) both
+    rw (a, b, sym (length-map o.inputs (λ (i : InputLine). i.name.text))) both

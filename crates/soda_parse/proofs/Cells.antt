@@ -34,23 +34,32 @@ AllFine o dims (cluster l ∷ ss) = AllFine o dims ss
 AllFine o dims (param p ∷ ss) = AllFine o dims ss
 AllFine o dims (input i ∷ ss) = AllFine o dims ss
 
-past_sizes : (o : Outline) (dims : ℕ) (sizes : List Size) (ys : List Site) → find (has_wrong_dims o dims) (map (λ s. SiteSize s) sizes ++ ys) ≡ None → find (has_wrong_dims o dims) ys ≡ None
+past_sizes : (o : Outline) (dims : ℕ) (sizes : List Size) (ys : List Site) → find (has_wrong_dims o dims) (map (λ s. SiteSize s) sizes ++ ys) ≡ None →
+    find (has_wrong_dims o dims) ys ≡ None
 past_sizes o dims [] ys e = e
 past_sizes o dims (s ∷ ss) ys e = past_sizes o dims ss ys e
 
-far_past_sizes : (o : Outline) (left : List ℤ) (sizes : List Size) (ys : List Site) → far_from o left (map (λ s. SiteSize s) sizes ++ ys) ≡ None → far_from o left ys ≡ None
+far_past_sizes : (o : Outline) (left : List ℤ) (sizes : List Size) (ys : List Site) → far_from o left (map (λ s. SiteSize s) sizes ++ ys) ≡ None →
+    far_from o left ys ≡ None
 far_past_sizes o left [] ys e = e
 far_past_sizes o left (s ∷ ss) ys e = far_past_sizes o left ss ys e
 
 -- what holds of a formula and of what comes behind it
-fine_line : (o : Outline) (dims : ℕ) (left : List ℤ) (f : PlainFormulaLine) (ys : List Site) → find (has_wrong_dims o dims) (Left f.name f.left ∷ (uses_in f.formula ++ ys)) ≡ None → far_from o left (Left f.name f.left ∷ (uses_in f.formula ++ ys)) ≡ None → FineCells o dims f.left (uses_in f.formula) × (find (has_wrong_dims o dims) ys ≡ None) × (far_from o f.left ys ≡ None)
+fine_line : (o : Outline) (dims : ℕ) (left : List ℤ) (f : PlainFormulaLine) (ys : List Site) →
+    find (has_wrong_dims o dims) (Left f.name f.left ∷ (uses_in f.formula ++ ys)) ≡ None →
+    far_from o left (Left f.name f.left ∷ (uses_in f.formula ++ ys)) ≡ None →
+    FineCells o dims f.left (uses_in f.formula) × (find (has_wrong_dims o dims) ys ≡ None) × (far_from o f.left ys ≡ None)
 fine_line o dims left f ys e g =
     let here = none_here (has_wrong_dims o dims) (Left f.name f.left) (uses_in f.formula ++ ys) e in
     let both = none_in_both (has_wrong_dims o dims) (uses_in f.formula) ys here.1 in
-    let far = sym (far_uses o f.left f.formula ys) ∙ g in
-    (record { counted = both.0; near = none_first (far_from o f.left (uses_in f.formula)) (far_from o f.left ys) far }, both.1, none_second (far_from o f.left (uses_in f.formula)) (far_from o f.left ys) far)
+    let far = sym (far_uses o f.left f.formula ys) ∙ g in (
+      record { counted = both.0; near = none_first (far_from o f.left (uses_in f.formula)) (far_from o f.left ys) far },
+      both.1,
+      none_second (far_from o f.left (uses_in f.formula)) (far_from o f.left ys) far,
+    )
 
-pub all_fine : (o : Outline) (dims : ℕ) (left : List ℤ) (ss : List PlainStatement) → find (has_wrong_dims o dims) (outline_of ss).sites ≡ None → far_from o left (outline_of ss).sites ≡ None → AllFine o dims ss
+pub all_fine : (o : Outline) (dims : ℕ) (left : List ℤ) (ss : List PlainStatement) → find (has_wrong_dims o dims) (outline_of ss).sites ≡ None →
+    far_from o left (outline_of ss).sites ≡ None → AllFine o dims ss
 unfolding outline_of outline_in
 all_fine o dims left [] e g = tt
 all_fine o dims left (kernel l w ∷ ss) e g = all_fine o dims left ss e g
@@ -71,7 +80,8 @@ inputs_fine : (p : PlainProgram) (inputs : List InputLine) → list_all (formula
 inputs_fine p [] = refl
 inputs_fine p (i ∷ is) = inputs_fine p is
 
-tensors_fine : (o : Outline) (p : PlainProgram) (dims : ℕ) (ss : List PlainStatement) → Fits o p dims → AllFine o dims ss → list_all (formula_is (every (is_good_cell p))) (flat_map (tensors_in o) ss) ≡ true
+tensors_fine : (o : Outline) (p : PlainProgram) (dims : ℕ) (ss : List PlainStatement) → Fits o p dims → AllFine o dims ss →
+    list_all (formula_is (every (is_good_cell p))) (flat_map (tensors_in o) ss) ≡ true
 tensors_fine o p dims [] fits fine = refl
 tensors_fine o p dims (kernel l w ∷ ss) fits fine = tensors_fine o p dims ss fits fine
 tensors_fine o p dims (burst_width l n ∷ ss) fits fine = tensors_fine o p dims ss fits fine
@@ -87,6 +97,8 @@ tensors_fine o p dims (output f ∷ ss) fits fine =
     rw (good_cells o p dims f.left f.formula fits fine.0) (tensors_fine o p dims ss fits fine.1)
 
 -- all cells are of tensors that are there, at offsets that may be
-pub cells_fine : (o : Outline) (p : PlainProgram) (dims : ℕ) (ss : List PlainStatement) → Fits o p dims → AllFine o dims ss → list_all (formula_is (every (is_good_cell p))) (map input_of o.inputs ++ flat_map (tensors_in o) ss) ≡ true
+pub cells_fine : (o : Outline) (p : PlainProgram) (dims : ℕ) (ss : List PlainStatement) → Fits o p dims → AllFine o dims ss →
+    list_all (formula_is (every (is_good_cell p))) (map input_of o.inputs ++ flat_map (tensors_in o) ss) ≡ true
 cells_fine o p dims ss fits fine =
-    list_all-append (formula_is (every (is_good_cell p))) (map input_of o.inputs) (flat_map (tensors_in o) ss) ∙ rw (inputs_fine p o.inputs) (tensors_fine o p dims ss fits fine)
+    list_all-append (formula_is (every (is_good_cell p))) (map input_of o.inputs) (flat_map (tensors_in o) ss) ∙
+    rw (inputs_fine p o.inputs) (tensors_fine o p dims ss fits fine)

@@ -19,7 +19,12 @@ tokens_few : (k line : ℕ) (bs : List ℕ) → length (tokens_behind k line bs)
 unfolding tokens_behind
 tokens_few k line [] = omega arith
 tokens_few zero line (b ∷ bs) =
-    omega (arith, length-append (placed line (front_of b bs).token) (tokens_behind (front_of b bs).more (line_behind line b) bs), one_at_most line (front_of b bs).token, tokens_few (front_of b bs).more (line_behind line b) bs)
+    omega (
+      arith,
+      length-append (placed line (front_of b bs).token) (tokens_behind (front_of b bs).more (line_behind line b) bs),
+      one_at_most line (front_of b bs).token,
+      tokens_few (front_of b bs).more (line_behind line b) bs,
+    )
 tokens_few (suc k) line (b ∷ bs) = omega (arith, tokens_few k (line_behind line b) bs)
 
 some_token : (ts : List Placed) (s : PlainStatement) → IsStatement ts s → 1 ≤ length ts
@@ -72,8 +77,11 @@ tensors_made o (output f ∷ ss) = ap suc (tensors_made o ss)
 -- as many tensors as inputs, locals and outputs
 pub tensor_total : (ss : List PlainStatement) → length (program_by (outline_of ss) ss).tensors ≡ length (outline_of ss).inputs + length (outline_of ss).defined
 tensor_total ss =
-    length-append (map input_of (outline_of ss).inputs) (flat_map (tensors_in (outline_of ss)) ss) ∙ (ap (λ (n : ℕ). n + length (flat_map (tensors_in (outline_of ss)) ss)) (length-map (outline_of ss).inputs input_of) ∙ ap (λ (n : ℕ). length (outline_of ss).inputs + n) (tensors_made (outline_of ss) ss))
+    length-append (map input_of (outline_of ss).inputs) (flat_map (tensors_in (outline_of ss)) ss) ∙
+    (ap (λ (n : ℕ). n + length (flat_map (tensors_in (outline_of ss)) ss)) (length-map (outline_of ss).inputs input_of) ∙
+    ap (λ (n : ℕ). length (outline_of ss).inputs + n) (tensors_made (outline_of ss) ss))
 
-pub few_of_all : (bytes : List ℕ) (ss : List PlainStatement) → AreStatements (tokens_of bytes) ss → length (outline_of ss).inputs + length (outline_of ss).defined + length (outline_of ss).params ≤ length bytes
+pub few_of_all : (bytes : List ℕ) (ss : List PlainStatement) → AreStatements (tokens_of bytes) ss →
+    length (outline_of ss).inputs + length (outline_of ss).defined + length (outline_of ss).params ≤ length bytes
 few_of_all bytes ss are =
     omega (arith, parts_few ss, statements_few (tokens_of bytes) ss are, tokens_few 0 1 bytes)

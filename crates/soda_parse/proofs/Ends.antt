@@ -3,7 +3,7 @@ use Rattle.std.proofs.Common.{◌≡◌, ◌≢◌, ℕ, zero, suc, ◌+◌, ◌
 use Rattle.std.specs.Prelude.{find, flat_map, nat_le, nat_lt, slice_get}
 use Rattle.std.specs.List.{list_all, list_any}
 use Rattle.std.proofs.lemmas.Bool.Decides.{nat_tests}
-use Rattle.std.proofs.lemmas.Bool.{eq-eqb, eqb-true}
+use Rattle.std.proofs.lemmas.Bool.{eq-eqb, eqb-true, not-true}
 use Rattle.soda_checks.specs.Conditions.{has_output, is_wrong_site}
 use Rattle.soda_checks.specs.Outline.{outline_in, outline_of, uses_in}
 use Rattle.soda_checks.specs.declared.outline.Defined.{Defined}
@@ -36,19 +36,16 @@ no_inputs o (input i ∷ ss) = no_inputs o ss
 no_inputs o (local f ∷ ss) = no_inputs o ss
 no_inputs o (output f ∷ ss) = no_inputs o ss
 
-not_true : (b : Bool) → not b ≡ true → b ≡ false
-not_true true e = cc
-not_true false e = refl
-
 none_first_input : (ts : List PlainTensor) → list_all (λ u. not (is_input_role u.role)) ts ≡ true → has_inputs_first ts ≡ true
 none_first_input [] e = refl
 none_first_input (t ∷ ts) e =
     let both = both_of (not (is_input_role t.role)) (list_all (λ u. not (is_input_role u.role)) ts) e in
-    let no : is_input_role t.role ≡ false = not_true (is_input_role t.role) both.0 in
+    let no : is_input_role t.role ≡ false = not-true (is_input_role t.role) both.0 in
     rw no both.1
 
 -- the inputs stand first
-pub inputs_stand_first : (o : Outline) (is : List InputLine) (ss : List PlainStatement) → has_inputs_first (map input_of is ++ flat_map (tensors_in o) ss) ≡ true
+pub inputs_stand_first : (o : Outline) (is : List InputLine) (ss : List PlainStatement) →
+    has_inputs_first (map input_of is ++ flat_map (tensors_in o) ss) ≡ true
 inputs_stand_first o [] ss = none_first_input (flat_map (tensors_in o) ss) (no_inputs o ss)
 inputs_stand_first o (i ∷ is) ss = inputs_stand_first o is ss
 
@@ -66,16 +63,19 @@ formulas_there o (local f ∷ ss) = formulas_there o ss
 formulas_there o (output f ∷ ss) = formulas_there o ss
 
 -- a tensor has a formula where it is no input
-pub all_formulas : (o : Outline) (is : List InputLine) (ss : List PlainStatement) → list_all has_formula_if_no_input (map input_of is ++ flat_map (tensors_in o) ss) ≡ true
+pub all_formulas : (o : Outline) (is : List InputLine) (ss : List PlainStatement) →
+    list_all has_formula_if_no_input (map input_of is ++ flat_map (tensors_in o) ss) ≡ true
 all_formulas o [] ss = formulas_there o ss
 all_formulas o (i ∷ is) ss = all_formulas o is ss
 
 -- an input is there
-pub an_input : (o : Outline) (is : List InputLine) (ss : List PlainStatement) → 0 < length is → list_any (λ t. is_input_role t.role) (map input_of is ++ flat_map (tensors_in o) ss) ≡ true
+pub an_input : (o : Outline) (is : List InputLine) (ss : List PlainStatement) → 0 < length is →
+    list_any (λ t. is_input_role t.role) (map input_of is ++ flat_map (tensors_in o) ss) ≡ true
 an_input o [] ss lt = absurd (omega arith)
 an_input o (i ∷ is) ss lt = refl
 
-output_there : (o : Outline) (ss : List PlainStatement) → has_output (outline_of ss).defined ≡ true → list_any (λ t. is_output_role t.role) (flat_map (tensors_in o) ss) ≡ true
+output_there : (o : Outline) (ss : List PlainStatement) → has_output (outline_of ss).defined ≡ true →
+    list_any (λ t. is_output_role t.role) (flat_map (tensors_in o) ss) ≡ true
 unfolding outline_of outline_in
 output_there o [] e = e
 output_there o (kernel l w ∷ ss) e = output_there o ss e
@@ -90,7 +90,8 @@ output_there o (local f ∷ ss) e = output_there o ss e
 output_there o (output f ∷ ss) e = refl
 
 -- an output is there
-pub an_output : (o : Outline) (is : List InputLine) (ss : List PlainStatement) → has_output (outline_of ss).defined ≡ true → list_any (λ t. is_output_role t.role) (map input_of is ++ flat_map (tensors_in o) ss) ≡ true
+pub an_output : (o : Outline) (is : List InputLine) (ss : List PlainStatement) → has_output (outline_of ss).defined ≡ true →
+    list_any (λ t. is_output_role t.role) (map input_of is ++ flat_map (tensors_in o) ss) ≡ true
 an_output o [] ss e = output_there o ss e
 an_output o (i ∷ is) ss e = an_output o is ss e
 
@@ -129,7 +130,8 @@ fits_itself p e f = record {
   preserved = λ kept. equal_lists (input_types p.tensors) (output_types p.tensors) (fit_kept (preserves p) (outputs_fit p) f kept);
 }
 
-placed_by : (p : PlainProgram) (n : ℕ) (d : Defined) (b : Bool) (rest : Option ℕ) → can_be_placed p n ≡ b → cond b rest (Some d.name.line) ≡ None → (b ≡ true) × (rest ≡ None)
+placed_by : (p : PlainProgram) (n : ℕ) (d : Defined) (b : Bool) (rest : Option ℕ) → can_be_placed p n ≡ b → cond b rest (Some d.name.line) ≡ None →
+    (b ≡ true) × (rest ≡ None)
 placed_by p n d true rest is e = (refl, e)
 placed_by p n d false rest is e = cc
 
@@ -137,8 +139,13 @@ later : (x n : ℕ) → n ≤ x → (x == n) ≡ false → suc n ≤ x
 later x n le e = grind (arith, nat_tests, e)
 
 -- each local and output can be placed
-pub defined_placed : (p : PlainProgram) (n : ℕ) (ds : List Defined) → circular_from p n ds ≡ None → (x : ℕ) → n ≤ x → x < n + length ds → can_be_placed p x ≡ true
+pub defined_placed : (p : PlainProgram) (n : ℕ) (ds : List Defined) → circular_from p n ds ≡ None → (x : ℕ) → n ≤ x → x < n + length ds →
+    can_be_placed p x ≡ true
 defined_placed p n [] e x le lt = absurd (omega arith)
 defined_placed p n (d ∷ ds) e x le lt =
     let here = placed_by p n d (can_be_placed p n) (circular_from p (suc n) ds) refl e in
-    elim (x == n) as (λ b. (b ≡ (x == n)) → can_be_placed p x ≡ true) [ true ↦ λ h. let same : x ≡ n = eqb-true x n (sym h) in ap (can_be_placed p) same ∙ here.0 | false ↦ λ h. defined_placed p (suc n) ds here.1 x (later x n le (sym h)) (omega arith) ] refl
+    elim (x == n) as (λ b. (b ≡ (x == n)) → can_be_placed p x ≡ true) [
+      | true ↦ λ h. let same : x ≡ n = eqb-true x n (sym h) in ap (can_be_placed p) same ∙
+          here.0
+      | false ↦ λ h. defined_placed p (suc n) ds here.1 x (later x n le (sym h)) (omega arith)
+    ] refl

@@ -71,7 +71,8 @@ refusal_is_one most bytes r s (too_long lt) (no_ascii le e) = absurd (omega arit
 refusal_is_one most bytes r s (too_long lt) (no_syntax le e x) = absurd (omega arith)
 refusal_is_one most bytes r s (too_long lt) (not_valid ss le e x y) = absurd (omega arith)
 refusal_is_one most bytes r s (no_ascii le e) (too_long lt) = absurd (omega arith)
-refusal_is_one most bytes r s (no_ascii {line = l} le e) (no_ascii {line = m} me f) = let h : Some l ≡ Some m = sym e ∙ f in let same : l ≡ m = cc in ap (λ (n : ℕ). NotAscii n) same
+refusal_is_one most bytes r s (no_ascii {line = l} le e) (no_ascii {line = m} me f) =
+    let h : Some l ≡ Some m = sym e ∙ f in let same : l ≡ m = cc in ap (λ (n : ℕ). NotAscii n) same
 refusal_is_one most bytes r s (no_ascii {line = l} le e) (no_syntax me f x) = let h : Some l ≡ None = sym e ∙ f in cc
 refusal_is_one most bytes r s (no_ascii {line = l} le e) (not_valid ss me f x y) = let h : Some l ≡ None = sym e ∙ f in cc
 refusal_is_one most bytes r s (no_syntax le e x) (too_long lt) = absurd (omega arith)
@@ -86,24 +87,29 @@ refusal_is_one most bytes r s (not_valid {r = t} ss le e x y) (not_valid {r = u}
     let h : Some t ≡ Some u = sym y ∙ (ap statement_refusal same ∙ w) in cc
 
 -- the same of an answer
-pub only_one : {A : Type 0} (f : A → PlainProgram) (most : ℕ) (bytes : List ℕ) (r : Result A ParseFail) → IfOk r (λ p. Accepts most bytes (f p)) → IfOk r (λ p. (q : PlainProgram) → Accepts most bytes q → q ≡ f p)
+pub only_one : {A : Type 0} (f : A → PlainProgram) (most : ℕ) (bytes : List ℕ) (r : Result A ParseFail) → IfOk r (λ p. Accepts most bytes (f p)) →
+    IfOk r (λ p. (q : PlainProgram) → Accepts most bytes q → q ≡ f p)
 only_one f most bytes (Ok p) a = λ q b. program_is_one most bytes q (f p) b a
 only_one f most bytes (Err e) a = tt
 
-pub none_refused : {A : Type 0} (f : A → PlainProgram) (most : ℕ) (bytes : List ℕ) (r : Result A ParseFail) → IfOk r (λ p. Accepts most bytes (f p)) → IfOk r (λ p. (s : Refusal) → Refuses most bytes s → ⊥)
+pub none_refused : {A : Type 0} (f : A → PlainProgram) (most : ℕ) (bytes : List ℕ) (r : Result A ParseFail) → IfOk r (λ p. Accepts most bytes (f p)) →
+    IfOk r (λ p. (s : Refusal) → Refuses most bytes s → ⊥)
 none_refused f most bytes (Ok p) a = λ s b. never_both most bytes (f p) s a b
 none_refused f most bytes (Err e) a = tt
 
-pub only_cause : {A : Type 0} (most : ℕ) (bytes : List ℕ) (r : Result A ParseFail) → IfRefused r (Refuses most bytes) → IfRefused r (λ c. (s : Refusal) → Refuses most bytes s → s ≡ c)
+pub only_cause : {A : Type 0} (most : ℕ) (bytes : List ℕ) (r : Result A ParseFail) → IfRefused r (Refuses most bytes) →
+    IfRefused r (λ c. (s : Refusal) → Refuses most bytes s → s ≡ c)
 only_cause most bytes (Ok p) a = tt
 only_cause most bytes (Err (Refused c)) a = λ s b. refusal_is_one most bytes s c b a
 only_cause most bytes (Err Memory) a = tt
 
-pub none_accepted : {A : Type 0} (most : ℕ) (bytes : List ℕ) (r : Result A ParseFail) → IfRefused r (Refuses most bytes) → IfRefused r (λ c. (q : PlainProgram) → Accepts most bytes q → ⊥)
+pub none_accepted : {A : Type 0} (most : ℕ) (bytes : List ℕ) (r : Result A ParseFail) → IfRefused r (Refuses most bytes) →
+    IfRefused r (λ c. (q : PlainProgram) → Accepts most bytes q → ⊥)
 none_accepted most bytes (Ok p) a = tt
 none_accepted most bytes (Err (Refused c)) a = λ q b. never_both most bytes q c b a
 none_accepted most bytes (Err Memory) a = tt
 
-pub syntax_refused : (A B : Type 0) (most : ℕ) (bytes : List ℕ) (fail : SyntaxFail) → length bytes ≤ most → not_ascii bytes ≡ None → IfUnread {A = B} (Err fail) (IsSyntaxError bytes) → IfRefused {A = A} (Err (unread fail)) (Refuses most bytes)
+pub syntax_refused : (A B : Type 0) (most : ℕ) (bytes : List ℕ) (fail : SyntaxFail) → length bytes ≤ most → not_ascii bytes ≡ None →
+    IfUnread {A = B} (Err fail) (IsSyntaxError bytes) → IfRefused {A = A} (Err (unread fail)) (Refuses most bytes)
 syntax_refused A B most bytes (SyntaxRefused line) short ascii e = no_syntax short ascii e
 syntax_refused A B most bytes SyntaxMemory short ascii e = tt

@@ -18,7 +18,7 @@ use Rattle.soda_parse.specs.ProgramConditions.{are_same_types, bad_burst, circul
 use Rattle.soda_parse.specs.Meaning.{tile_items}
 use Rattle.soda_parse.specs.Text.{count_refusal, late_refusal, names_refusal, refusal_by, shape_refusal, size_refusal, statement_refusal, use_refusal}
 use Rattle.soda_print.specs.Sized.{IsSizedProgram}
-use Rattle.soda_print.proofs.CallerLemmas.{positive}
+use Rattle.soda_print.proofs.CallerLemmas.{count_cons, positive, some}
 use Rattle.soda_formula.specs.declared.statement.Extent.{Extent}
 use Rattle.soda_formula.specs.declared.statement.Extent.TheVariants.{Fixed, Open}
 use Rattle.soda_formula.specs.declared.statement.InputLine.{InputLine}
@@ -28,25 +28,27 @@ use Rattle.soda_parse.proofs.Kept.{KeepsNames, KeepsRest, KeepsShape, KeepsSizes
 use Rattle.soda_parse.proofs.ReadProgram.{names_are, outline, program_back, tensors_ordered, tile_is}
 use Rattle.soda_parse.proofs.SameTypes.{both_of, decided}
 use Rattle.soda_parse.proofs.Statements.{AreDefined, none_defined, a_local, an_output, AreOrdered, no_input, an_input, declared_from, statements_of, tensors_from, tile_of}
-
-le_true : (a b : ℕ) → a ≤ b → nat_le a b ≡ true
-le_true a b h = grind (arith, nat_tests)
+use Rattle.soda_parse.proofs.Truths.{le_true}
+use Rattle.std.proofs.lemmas.List.{length-map}
 
 -- each local and output can be placed
-none_circular : (p : PlainProgram) (n : ℕ) (ds : List Defined) → ((x : ℕ) → x < length p.tensors → can_be_placed p x ≡ true) → n + length ds ≤ length p.tensors → circular_from p n ds ≡ None
+none_circular : (p : PlainProgram) (n : ℕ) (ds : List Defined) → ((x : ℕ) → x < length p.tensors → can_be_placed p x ≡ true) →
+    n + length ds ≤ length p.tensors → circular_from p n ds ≡ None
 none_circular p n [] h le = refl
 none_circular p n (d ∷ ds) h le = rw (h n (omega arith)) (none_circular p (suc n) ds h (omega arith))
-
-length_mapped : {A B : Type 0} (f : A → B) (xs : List A) → length (map f xs) ≡ length xs
-length_mapped f [] = refl
-length_mapped f (x ∷ xs) = ap suc (length_mapped f xs)
 
 tensors_many : (p : PlainProgram) → IsValid p → length (outline p).inputs + length (outline p).defined ≡ length p.tensors
 tensors_many p v =
     let is : List (List ℕ) = map (λ (i : InputLine). i.name.text) (outline p).inputs in
     let ds : List (List ℕ) = map (λ (d : Defined). d.name.text) (outline p).defined in
-    let all : length (is ++ ds) ≡ length p.tensors = ap length (names_are p v) ∙ length_mapped (λ (t : PlainTensor). t.name) p.tensors in
-    omega (arith, all, length-append is ds, length_mapped (λ (i : InputLine). i.name.text) (outline p).inputs, length_mapped (λ (d : Defined). d.name.text) (outline p).defined)
+    let all : length (is ++ ds) ≡ length p.tensors = ap length (names_are p v) ∙ length-map p.tensors (λ (t : PlainTensor). t.name) in
+    omega (
+      arith,
+      all,
+      length-append is ds,
+      length-map (outline p).inputs (λ (i : InputLine). i.name.text),
+      length-map (outline p).defined (λ (d : Defined). d.name.text),
+    )
 
 -- the outputs fit the inputs where they have to
 same_types : (ts us : List IntType) → ts ≡ us → are_same_types ts us ≡ true
@@ -61,7 +63,8 @@ apart n e = grind (arith, nat_tests)
 
 iterates_fine : (p : PlainProgram) → IsValid p → iterate_mismatch p ≡ false
 iterates_fine p v =
-    mismatch_none (p.iterate == 1) (outputs_fit p) (λ e. same_types (input_types p.tensors) (output_types p.tensors) (v.sound.fits.iterated (apart p.iterate e)))
+    mismatch_none (p.iterate == 1) (outputs_fit p) (λ e. same_types (input_types p.tensors) (output_types p.tensors)
+    (v.sound.fits.iterated (apart p.iterate e)))
 
 preserve_none : (keeps fit : Bool) → (keeps ≡ true → fit ≡ true) → (keeps && not fit) ≡ false
 preserve_none true fit h = ap not (h refl)
@@ -87,18 +90,22 @@ same_tile (Fixed n ∷ es) = rw (self_equal n) (same_tile es)
 tile_good : (p : PlainProgram) → IsValid p → not (is_tile (tile_of p) && is_same_tile (tile_of p) (tile_of p)) ≡ false
 tile_good p v = rw (is_tile_fixed p.extents v.sound.limits.extents, same_tile (tile_of p)) refl
 
-defined_tiles : (p : PlainProgram) (line : ℕ) {ts : List PlainTensor} → AreDefined ts → find (has_wrong_tile (tile_of p)) (outline_of (tensors_from p line ts)).inputs ≡ None
+defined_tiles : (p : PlainProgram) (line : ℕ) {ts : List PlainTensor} → AreDefined ts →
+    find (has_wrong_tile (tile_of p)) (outline_of (tensors_from p line ts)).inputs ≡ None
 unfolding outline_of outline_in
 defined_tiles p line none_defined = refl
 defined_tiles p line (a_local n ty f more) = defined_tiles p (suc line) more
 defined_tiles p line (an_output n ty f more) = defined_tiles p (suc line) more
 
-tensor_tiles : (p : PlainProgram) (line : ℕ) {ts : List PlainTensor} → not (is_tile (tile_of p) && is_same_tile (tile_of p) (tile_of p)) ≡ false → AreOrdered ts → find (has_wrong_tile (tile_of p)) (outline_of (tensors_from p line ts)).inputs ≡ None
+tensor_tiles : (p : PlainProgram) (line : ℕ) {ts : List PlainTensor} → not (is_tile (tile_of p) && is_same_tile (tile_of p) (tile_of p)) ≡ false →
+    AreOrdered ts → find (has_wrong_tile (tile_of p)) (outline_of (tensors_from p line ts)).inputs ≡ None
 unfolding outline_of outline_in
 tensor_tiles p line h (no_input d) = defined_tiles p line d
 tensor_tiles p line h (an_input n ty more) = rw h (tensor_tiles p (suc line) h more)
 
-tiles : (p : PlainProgram) (line : ℕ) (qs : List PlainParam) {ts : List PlainTensor} → not (is_tile (tile_of p) && is_same_tile (tile_of p) (tile_of p)) ≡ false → AreOrdered ts → find (has_wrong_tile (tile_of p)) (outline_of (declared_from p line qs ts)).inputs ≡ None
+tiles : (p : PlainProgram) (line : ℕ) (qs : List PlainParam) {ts : List PlainTensor} →
+    not (is_tile (tile_of p) && is_same_tile (tile_of p) (tile_of p)) ≡ false → AreOrdered ts →
+    find (has_wrong_tile (tile_of p)) (outline_of (declared_from p line qs ts)).inputs ≡ None
 unfolding outline_of outline_in
 tiles p line [] h d = tensor_tiles p line h d
 tiles p line (q ∷ qs) h d = tiles p (suc line) qs h d
@@ -130,9 +137,6 @@ within least most n h k = rw (le_true least n h, le_true n most k) refl
 not_past : (most n : ℕ) → n ≤ most → nat_lt most n ≡ false
 not_past most n h = grind (arith, nat_tests)
 
-some : (n : ℕ) → nonzero n ≡ true → 1 ≤ n
-some n h = grind (arith, nat_tests)
-
 one_product : (n k : ℕ) (ks : List ℕ) → list_all nonzero ks ≡ true → n * k ≤ n * (k * size ks)
 one_product n k ks h =
     let more : 1 ≤ size ks = positive ks h in
@@ -147,7 +151,8 @@ products_none most n (k ∷ ks) h le =
     let here : n * k ≤ n * (k * size ks) = one_product n k ks both.1 in
     rw (not_past most (n * k) (omega arith)) (products_none most (n * k) ks both.1 (omega (arith, mul_assoc n k (size ks))))
 
-sums_none : (most b n : ℕ) (ks : List ℕ) → list_all nonzero ks ≡ true → b + n * size ks ≤ most → first_past most (map (λ m. b + m) (partial_products n ks)) ≡ None
+sums_none : (most b n : ℕ) (ks : List ℕ) → list_all nonzero ks ≡ true → b + n * size ks ≤ most →
+    first_past most (map (λ m. b + m) (partial_products n ks)) ≡ None
 sums_none most b n [] h le = refl
 sums_none most b n (k ∷ ks) h le =
     let both = both_of (nonzero k) (list_all nonzero ks) h in
@@ -157,9 +162,6 @@ sums_none most b n (k ∷ ks) h le =
 param_none : (most b : ℕ) (ks : List ℕ) → list_all nonzero ks ≡ true → b + size ks ≤ most → first_past most (map (λ m. b + m) (param_products ks)) ≡ None
 param_none most b [] h le = rw (not_past most (b + 1) le) refl
 param_none most b (k ∷ ks) h le = sums_none most b 1 (k ∷ ks) h (omega (arith, one-mul (size (k ∷ ks))))
-
-count_cons : (q : PlainParam) (qs : List PlainParam) → value_count (q ∷ qs) ≡ size q.sizes + value_count qs
-count_cons q qs = sum_by-cons (λ (r : PlainParam). size r.sizes) q qs
 
 values_none : (b : ℕ) (qs : List PlainParam) → list_all is_good_param qs ≡ true → b + value_count qs ≤ 65536 → values_past b qs ≡ None
 values_none b [] h le = refl
@@ -171,7 +173,8 @@ values_none b (q ∷ qs) h le =
 
 dims_fine : (p : PlainProgram) → IsValid p → unless_within 0 4 (length (tile_items (outline p))) ≡ None
 dims_fine p v =
-    let many : length (tile_items (outline p)) ≡ suc (length p.extents) = ap (λ (t : Option (List Extent)). length (unwrap_or t [])) (tile_is p v) ∙ dims_are p in
+    let many : length (tile_items (outline p)) ≡ suc (length p.extents) = ap (λ (t : Option (List Extent)). length (unwrap_or t [])) (tile_is p v) ∙
+    dims_are p in
     rw many (within 0 4 (suc (length p.extents)) (omega arith) v.sound.limits.few_dims)
 
 offsets_fine : (p : PlainProgram) → IsValid p → offset_past (outline p) ≡ None

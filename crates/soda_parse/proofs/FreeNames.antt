@@ -14,35 +14,14 @@ use Rattle.soda_formula.specs.declared.statement.ParamLine.{ParamLine}
 use Rattle.std.proofs.Math.Dec.{eqb-suc-zero}
 use Rattle.soda_words.specs.Names.{behind, is_free_name, is_name, is_reserved, is_word}
 use Rattle.soda_words.specs.declared.token.Word.{Word}
+use Rattle.soda_parse.proofs.Truths.{neither_of}
+use Rattle.soda_words.proofs.CallerLemmas.{is_word-turned}
 
 -- the names of an outline, params before inputs before locals and outputs
 abbrev names_of : Outline → List (List ℕ)
-names_of o = map (λ (w : Word). w.text) (map (λ (q : ParamLine). q.name) o.params) ++ (map (λ (i : InputLine). i.name.text) o.inputs ++ map (λ (d : Defined). d.name.text) o.defined)
-
-neither : (a b : Bool) → (a || b) ≡ false → (a ≡ false) × (b ≡ false)
-neither true b e = cc
-neither false b e = (refl, e)
-
-abbrev word_by : Option (List ℕ) → Bool → Bool
-word_by more t = elim (cond t more None) as (λ (r : Option (List ℕ)). Bool) [ None ↦ false | Some rest ↦ length rest == 0 ]
-
-word_step : (a b : ℕ) (cs bs : List ℕ) (t : Bool) → (a == b) ≡ t → is_word (a ∷ cs) (b ∷ bs) ≡ cond t (is_word cs bs) false
-word_step a b cs bs true e = ap (word_by (behind cs bs)) e
-word_step a b cs bs false e = ap (word_by (behind cs bs)) e
-
-flip_eq : (a b : ℕ) (t u : Bool) → (a == b) ≡ t → (b == a) ≡ u → t ≡ u
-flip_eq a b true true e f = refl
-flip_eq a b false false e f = refl
-flip_eq a b true false e f = sym (eq-eqb b a (sym (eqb-true a b e))) ∙ f
-flip_eq a b false true e f = sym e ∙ eq-eqb a b (sym (eqb-true b a f))
-
-word_sym : (a b : List ℕ) → is_word a b ≡ is_word b a
-word_sym [] [] = refl
-word_sym [] (b ∷ bs) = eqb-suc-zero (length bs)
-word_sym (a ∷ cs) [] = sym (eqb-suc-zero (length cs))
-word_sym (a ∷ cs) (b ∷ bs) =
-    let s : (a == b) ≡ (b == a) = flip_eq a b (a == b) (b == a) refl refl in
-    word_step a b cs bs (b == a) s ∙ (ap (λ (t : Bool). cond (b == a) t false) (word_sym cs bs) ∙ sym (word_step b a bs cs (b == a) refl))
+names_of o =
+    map (λ (w : Word). w.text) (map (λ (q : ParamLine). q.name) o.params) ++ (map (λ (i : InputLine). i.name.text) o.inputs ++ map
+    (λ (d : Defined). d.name.text) o.defined)
 
 -- each is free, and like none behind it
 abbrev Fresh : List (List ℕ) → Type 0
@@ -69,14 +48,15 @@ apart_none (e ∷ es) = (refl, apart_none es)
 apart_more : (es : List Word) (w : Word) (ws : List (List ℕ)) → Apart es ws → is_one_of es w ≡ false → Apart es (w.text ∷ ws)
 apart_more [] w ws a e = tt
 apart_more (x ∷ es) w ws a e =
-    let both = neither (is_same w x) (is_one_of es w) e in
-    let here : is_word x.text w.text ≡ false = word_sym x.text w.text ∙ both.0 in
+    let both = neither_of (is_same w x) (is_one_of es w) e in
+    let here : is_word x.text w.text ≡ false = is_word-turned x.text w.text ∙ both.0 in
     (rw here a.0, apart_more es w ws a.1 both.1)
 
 abbrev texts : List Word → List (List ℕ)
 texts ws = map (λ (w : Word). w.text) ws
 
-taken_step : (earlier : List Word) (w : Word) (ws : List Word) (t : Bool) → (is_reserved w.text || is_one_of earlier w) ≡ t → cond t (Some w.line) (taken_behind (earlier ++ w ∷ []) ws) ≡ None → (t ≡ false) × (taken_behind (earlier ++ w ∷ []) ws ≡ None)
+taken_step : (earlier : List Word) (w : Word) (ws : List Word) (t : Bool) → (is_reserved w.text || is_one_of earlier w) ≡ t →
+    cond t (Some w.line) (taken_behind (earlier ++ w ∷ []) ws) ≡ None → (t ≡ false) × (taken_behind (earlier ++ w ∷ []) ws ≡ None)
 taken_step earlier w ws true e f = cc
 taken_step earlier w ws false e f = (refl, f)
 
@@ -84,7 +64,7 @@ all_fresh : (earlier ws : List Word) → taken_behind earlier ws ≡ None → li
 all_fresh earlier [] e n = (tt, apart_none earlier)
 all_fresh earlier (w ∷ ws) e n =
     let step = taken_step earlier w ws (is_reserved w.text || is_one_of earlier w) refl e in
-    let free = neither (is_reserved w.text) (is_one_of earlier w) step.0 in
+    let free = neither_of (is_reserved w.text) (is_one_of earlier w) step.0 in
     let named = both_of (is_name w.text) (list_all (λ w. is_name w.text) ws) n in
     let more = all_fresh (earlier ++ w ∷ []) ws step.1 named.1 in
     let last = apart_last earlier w (texts ws) more.1 in
@@ -100,11 +80,12 @@ any_insert : (f : List ℕ → Bool) (xs : List (List ℕ)) (n : List ℕ) (ys :
 any_insert f [] n ys = refl
 any_insert f (x ∷ xs) n ys = ap (λ (b : Bool). f x || b) (any_insert f xs n ys) ∙ or_swap (f x) (f n) (list_any f (xs ++ ys))
 
-insert : (xs : List (List ℕ)) (n : List ℕ) (ys : List (List ℕ)) → Fresh (xs ++ ys) → is_free_name n ≡ true → list_any (is_word n) (xs ++ ys) ≡ false → Fresh (xs ++ n ∷ ys)
+insert : (xs : List (List ℕ)) (n : List ℕ) (ys : List (List ℕ)) → Fresh (xs ++ ys) → is_free_name n ≡ true → list_any (is_word n) (xs ++ ys) ≡ false →
+    Fresh (xs ++ n ∷ ys)
 insert [] n ys f g e = (g, e, f)
 insert (x ∷ xs) n ys f g e =
-    let both = neither (is_word n x) (list_any (is_word n) (xs ++ ys)) e in
-    let here : is_word x n ≡ false = word_sym x n ∙ both.0 in
+    let both = neither_of (is_word n x) (list_any (is_word n) (xs ++ ys)) e in
+    let here : is_word x n ≡ false = is_word-turned x n ∙ both.0 in
     let none : list_any (is_word x) (xs ++ n ∷ ys) ≡ false = any_insert (is_word x) xs n ys ∙ rw (here, f.1) refl in
     (f.0, none, insert xs n ys f.2 g both.1)
 
@@ -138,12 +119,18 @@ reordered (cluster l ∷ ss) = reordered ss
 reordered (param q ∷ ss) =
     one_more q.name.text (texts (outline_of ss).declared) [] (names_of (outline_of ss)) (reordered ss)
 reordered (input i ∷ ss) =
-    one_more i.name.text (texts (outline_of ss).declared) (texts (map (λ (q : ParamLine). q.name) (outline_of ss).params)) (map (λ (j : InputLine). j.name.text) (outline_of ss).inputs ++ map (λ (d : Defined). d.name.text) (outline_of ss).defined) (reordered ss)
+    one_more i.name.text (texts (outline_of ss).declared) (texts (map (λ (q : ParamLine). q.name) (outline_of ss).params))
+    (map (λ (j : InputLine). j.name.text) (outline_of ss).inputs ++ map (λ (d : Defined). d.name.text) (outline_of ss).defined) (reordered ss)
 reordered (local g ∷ ss) =
-    two_before g.name.text (texts (outline_of ss).declared) (texts (map (λ (q : ParamLine). q.name) (outline_of ss).params)) (map (λ (j : InputLine). j.name.text) (outline_of ss).inputs) (map (λ (d : Defined). d.name.text) (outline_of ss).defined) (reordered ss)
+    two_before g.name.text (texts (outline_of ss).declared) (texts (map (λ (q : ParamLine). q.name) (outline_of ss).params))
+    (map (λ (j : InputLine). j.name.text) (outline_of ss).inputs) (map (λ (d : Defined). d.name.text) (outline_of ss).defined) (reordered ss)
 reordered (output g ∷ ss) =
-    two_before g.name.text (texts (outline_of ss).declared) (texts (map (λ (q : ParamLine). q.name) (outline_of ss).params)) (map (λ (j : InputLine). j.name.text) (outline_of ss).inputs) (map (λ (d : Defined). d.name.text) (outline_of ss).defined) (reordered ss)
+    two_before g.name.text (texts (outline_of ss).declared) (texts (map (λ (q : ParamLine). q.name) (outline_of ss).params))
+    (map (λ (j : InputLine). j.name.text) (outline_of ss).inputs) (map (λ (d : Defined). d.name.text) (outline_of ss).defined) (reordered ss)
 
-pub free_names : (o : Outline) (ss : List PlainStatement) → taken_behind [] (outline_of ss).declared ≡ None → list_all (λ w. is_name w.text) (outline_of ss).declared ≡ true → are_free_names (map (λ w. w.text) (map (λ q. q.name) (outline_of ss).params) ++ (map (λ i. i.name.text) (outline_of ss).inputs ++ map (λ d. d.name.text) (outline_of ss).defined)) ≡ true
+pub free_names : (o : Outline) (ss : List PlainStatement) → taken_behind [] (outline_of ss).declared ≡ None →
+    list_all (λ w. is_name w.text) (outline_of ss).declared ≡ true →
+    are_free_names (map (λ w. w.text) (map (λ q. q.name) (outline_of ss).params) ++
+    (map (λ i. i.name.text) (outline_of ss).inputs ++ map (λ d. d.name.text) (outline_of ss).defined)) ≡ true
 free_names o ss none named =
     of_fresh (names_of (outline_of ss)) ((reordered ss).fresh (all_fresh [] (outline_of ss).declared none named).0)

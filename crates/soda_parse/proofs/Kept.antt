@@ -10,6 +10,7 @@ use Rattle.soda_parse.specs.Meaning.{tile_items}
 use Rattle.soda_parse.specs.Text.{count_refusal, late_refusal, names_refusal, refusal_by, refusal_if, shape_refusal, size_refusal, use_refusal}
 use Rattle.soda_parse.specs.declared.refusal.Refusal.{Refusal}
 use Rattle.soda_words.specs.Tokens.{or_else}
+use Rattle.soda_parse.proofs.Tiling.{unmapped}
 
 -- names and types are fine
 pub record KeepsNames (o : Outline) : Type 0 where
@@ -53,10 +54,6 @@ pub none_second : {A : Type 0} (a b : Option A) → or_else a b ≡ None → b �
 none_second None b e = e
 none_second (Some a) b e = cc
 
-none_mapped : {A B : Type 0} (f : A → B) (a : Option A) → option_map f a ≡ None → a ≡ None
-none_mapped f None e = refl
-none_mapped f (Some a) e = cc
-
 none_unless : (b : Bool) (r : Refusal) → refusal_if b r ≡ None → b ≡ false
 none_unless true r e = cc
 none_unless false r e = refl
@@ -71,13 +68,13 @@ keeps_names o e =
     let f = none_second _ _ d in
     let g = none_second _ _ f in
     record {
-      missing = none_mapped _ (missing o) (none_first _ _ e);
-      twice = none_mapped _ (twice o) (none_first _ _ a);
-      floats = none_mapped _ (float_type o) (none_first _ _ b);
-      widths = none_mapped _ (bad_width o) (none_first _ _ c);
-      names = none_mapped _ (name_twice o) (none_first _ _ d);
-      known = none_mapped _ (unknown_name o) (none_first _ _ f);
-      dims = none_mapped _ (wrong_dims o) (none_first _ _ g);
+      missing = unmapped _ (missing o) (none_first _ _ e);
+      twice = unmapped _ (twice o) (none_first _ _ a);
+      floats = unmapped _ (float_type o) (none_first _ _ b);
+      widths = unmapped _ (bad_width o) (none_first _ _ c);
+      names = unmapped _ (name_twice o) (none_first _ _ d);
+      known = unmapped _ (unknown_name o) (none_first _ _ f);
+      dims = unmapped _ (wrong_dims o) (none_first _ _ g);
     }
 
 pub keeps_shape : (o : Outline) (p : PlainProgram) → shape_refusal o p ≡ None → KeepsShape o p
@@ -87,10 +84,10 @@ keeps_shape o p e =
     let b = none_second _ _ a in
     let c = none_second _ _ b in
     record {
-      placed = none_mapped _ (circular o p) (none_first _ _ e);
+      placed = unmapped _ (circular o p) (none_first _ _ e);
       iterates = none_unless (iterate_mismatch p) _ (none_first _ _ a);
       preserves = none_unless (preserve_mismatch p) _ (none_first _ _ b);
-      tile = none_mapped _ (wrong_tile o) (none_first _ _ c);
+      tile = unmapped _ (wrong_tile o) (none_first _ _ c);
     }
 
 pub keeps_sizes : (o : Outline) (p : PlainProgram) → size_refusal o p ≡ None → KeepsSizes o p
@@ -103,20 +100,20 @@ keeps_sizes o p e =
     let f = none_second _ _ d in
     let g = none_second _ _ f in
     record {
-      unroll = none_mapped _ (unless_within 1 64 p.unroll) (none_first _ _ e);
-      iterate = none_mapped _ (unless_within 1 64 p.iterate) (none_first _ _ a);
-      dims = none_mapped _ (unless_within 0 4 (length (tile_items o))) (none_first _ _ b);
-      tile = none_mapped _ (tile_past p) (none_first _ _ c);
-      offsets = none_mapped _ (offset_past o) (none_first _ _ d);
-      tensors = none_mapped _ (unless_within 0 512 (length p.tensors)) (none_first _ _ f);
-      params = none_mapped _ (params_past p) (none_first _ _ g);
+      unroll = unmapped _ (unless_within 1 64 p.unroll) (none_first _ _ e);
+      iterate = unmapped _ (unless_within 1 64 p.iterate) (none_first _ _ a);
+      dims = unmapped _ (unless_within 0 4 (length (tile_items o))) (none_first _ _ b);
+      tile = unmapped _ (tile_past p) (none_first _ _ c);
+      offsets = unmapped _ (offset_past o) (none_first _ _ d);
+      tensors = unmapped _ (unless_within 0 512 (length p.tensors)) (none_first _ _ f);
+      params = unmapped _ (params_past p) (none_first _ _ g);
     }
 
 pub keeps_rest : (o : Outline) (p : PlainProgram) → count_refusal p ≡ None → use_refusal o p ≡ None → KeepsRest o p
 unfolding count_refusal use_refusal
 keeps_rest o p e u = record {
-  live = none_mapped _ (unless_within 0 512 (live_count p)) (none_first _ _ e);
-  reads = none_mapped _ (unless_within 0 16384 (read_count p)) (none_first _ _ (none_second _ _ e));
-  burst = none_mapped _ (bad_burst p) (none_first _ _ u);
-  uses = none_mapped _ (param_use o) (none_first _ _ (none_second _ _ u));
+  live = unmapped _ (unless_within 0 512 (live_count p)) (none_first _ _ e);
+  reads = unmapped _ (unless_within 0 16384 (read_count p)) (none_first _ _ (none_second _ _ e));
+  burst = unmapped _ (bad_burst p) (none_first _ _ u);
+  uses = unmapped _ (param_use o) (none_first _ _ (none_second _ _ u));
 }

@@ -1,3 +1,4 @@
+pub mod Truths
 pub mod Levels
 pub mod Offsets
 pub mod SameTypes
@@ -13,7 +14,10 @@ pub mod Named
 pub mod Places
 pub mod Ends
 pub mod AllUses
-pub mod Small
+pub mod TokenCounts
+pub mod WrittenTakes
+pub mod FormulasTake
+pub mod SmallTensors
 pub mod FreeNames
 pub mod Texts
 pub mod Link
@@ -29,6 +33,7 @@ pub mod FineSites
 pub mod FineNames
 pub mod FineProgram
 pub mod WrittenFormulas
+pub mod WrittenCosts
 pub mod SmallFormulas
 pub mod WrittenLines
 pub mod Accepted

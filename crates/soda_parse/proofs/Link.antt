@@ -21,7 +21,7 @@ use Rattle.soda_parse.proofs.Cells.{all_fine, cells_fine}
 use Rattle.soda_parse.proofs.Named.{AreNamed, declared_named, kernel_named, names_named, params_good}
 use Rattle.soda_parse.proofs.Places.{HasParams, good_uses, values_small}
 use Rattle.soda_parse.proofs.AllUses.{all_uses, input_placed, two_sizes}
-use Rattle.soda_parse.proofs.Small.{small_tensors}
+use Rattle.soda_parse.proofs.SmallTensors.{small_tensors}
 use Rattle.soda_parse.proofs.FreeNames.{free_names}
 use Rattle.soda_parse.proofs.Texts.{param_texts, tensor_texts}
 use Rattle.soda_parse.proofs.Ends.{inputs_stand_first, all_formulas, an_input, an_output, has_burst, fits_itself, defined_placed}
@@ -34,16 +34,19 @@ use Rattle.soda_formula.specs.Statements.{PlainStatement}
 use Rattle.soda_syntax.specs.SyntaxError.{IsSyntax}
 use Rattle.soda_words.specs.Tokens.{tokens_of}
 
-pub few_tensors : (bytes : List ℕ) (ss : List PlainStatement) → length bytes < 2 ^ 32 → IsSyntax (tokens_of bytes) ss → length (outline_of ss).inputs + length (outline_of ss).defined < 2 ^ 32
+pub few_tensors : (bytes : List ℕ) (ss : List PlainStatement) → length bytes < 2 ^ 32 → IsSyntax (tokens_of bytes) ss →
+    length (outline_of ss).inputs + length (outline_of ss).defined < 2 ^ 32
 few_tensors bytes ss short syn = omega (arith, few_of_all bytes ss syn.statements)
 
 pub few_params : (bytes : List ℕ) (ss : List PlainStatement) → length bytes < 2 ^ 32 → IsSyntax (tokens_of bytes) ss → length (outline_of ss).params < 2 ^ 32
 few_params bytes ss short syn = omega (arith, few_of_all bytes ss syn.statements)
 
-pub few_made : (bytes : List ℕ) (ss : List PlainStatement) → length bytes < 2 ^ 32 → IsSyntax (tokens_of bytes) ss → length (program_by (outline_of ss) ss).tensors < 2 ^ 32
+pub few_made : (bytes : List ℕ) (ss : List PlainStatement) → length bytes < 2 ^ 32 → IsSyntax (tokens_of bytes) ss →
+    length (program_by (outline_of ss) ss).tensors < 2 ^ 32
 few_made bytes ss short syn = omega (arith, few_of_all bytes ss syn.statements, tensor_total ss)
 
-pub countable : (ss : List PlainStatement) → names_refusal (outline_of ss) ≡ None → shape_refusal (outline_of ss) (program_by (outline_of ss) ss) ≡ None → size_refusal (outline_of ss) (program_by (outline_of ss) ss) ≡ None → IsCountable (program_by (outline_of ss) ss)
+pub countable : (ss : List PlainStatement) → names_refusal (outline_of ss) ≡ None → shape_refusal (outline_of ss) (program_by (outline_of ss) ss) ≡ None →
+    size_refusal (outline_of ss) (program_by (outline_of ss) ss) ≡ None → IsCountable (program_by (outline_of ss) ss)
 countable ss names shape sizes =
     let o : Outline = outline_of ss in
     let p : PlainProgram = program_by o ss in
@@ -90,13 +93,23 @@ groups o p e =
     }
 
 -- each tensor can be placed
-placed_of : (ss : List PlainStatement) → circular (outline_of ss) (program_by (outline_of ss) ss) ≡ None → 0 < length (outline_of ss).inputs → (x : ℕ) → x < length (outline_of ss).inputs + length (outline_of ss).defined → can_be_placed (program_by (outline_of ss) ss) x ≡ true
+placed_of : (ss : List PlainStatement) → circular (outline_of ss) (program_by (outline_of ss) ss) ≡ None → 0 < length (outline_of ss).inputs → (x : ℕ) →
+    x < length (outline_of ss).inputs + length (outline_of ss).defined → can_be_placed (program_by (outline_of ss) ss) x ≡ true
 placed_of ss e some x lt =
     let o : Outline = outline_of ss in
     let p : PlainProgram = program_by o ss in
-    elim (nat_lt x (length o.inputs)) as (λ b. (b ≡ nat_lt x (length o.inputs)) → can_be_placed p x ≡ true) [ true ↦ λ h. input_placed p o.inputs (flat_map (tensors_in o) ss) x refl (grind (arith, nat_tests, h)) (omega (arith, tensor_total ss, some)) | false ↦ λ h. defined_placed p (length o.inputs) o.defined e x (grind (arith, nat_tests, h)) lt ] refl
+    elim (nat_lt x (length o.inputs)) as (λ b. (b ≡ nat_lt x (length o.inputs)) →
+    can_be_placed p x ≡ true) [
+      | true ↦ λ h. input_placed p o.inputs (flat_map (tensors_in o) ss) x refl (grind (arith, nat_tests, h)) (omega (
+        arith,
+        tensor_total ss,
+        some,
+      ))
+      | false ↦ λ h. defined_placed p (length o.inputs) o.defined e x (grind (arith, nat_tests, h)) lt
+    ] refl
 
-pub valid : (bytes : List ℕ) (ss : List PlainStatement) → IsSyntax (tokens_of bytes) ss → refusal_by (outline_of ss) (program_by (outline_of ss) ss) ≡ None → IsValid (program_by (outline_of ss) ss)
+pub valid : (bytes : List ℕ) (ss : List PlainStatement) → IsSyntax (tokens_of bytes) ss →
+    refusal_by (outline_of ss) (program_by (outline_of ss) ss) ≡ None → IsValid (program_by (outline_of ss) ss)
 valid bytes ss syn none =
     let o : Outline = outline_of ss in
     let p : PlainProgram = program_by o ss in
@@ -137,8 +150,14 @@ valid bytes ss syn none =
           params = params;
           names = rw (param_texts o.params, tensor_texts o o.inputs ss) (free_names o ss a.names (declared_named ss called));
           formulas = all_formulas o o.inputs ss;
-          uses = all_uses o p (length (tile_items o)) o.inputs ss fits (record { same = refl; two = two_sizes o.params params; few = omega (arith, values) }) fine wrong;
-          small = list_all-append (is_small p) (map input_of o.inputs) (flat_map (tensors_in o) ss) ∙ rw (inputs_small p o.inputs) (small_tensors o p bytes ss refl wrong syn);
+          uses = all_uses o p (length (tile_items o)) o.inputs ss fits (record {
+            same = refl;
+            two = two_sizes o.params params;
+            few =
+                omega (arith, values);
+          }) fine wrong;
+          small = list_all-append (is_small p) (map input_of o.inputs) (flat_map (tensors_in o) ss) ∙
+              rw (inputs_small p o.inputs) (small_tensors o p bytes ss refl wrong syn);
         };
         ends = record {
           inputs_first = inputs_stand_first o o.inputs ss;
@@ -153,16 +172,21 @@ valid bytes ss syn none =
       few_reads = (within 0 16384 (read_count p) d.reads).1;
     }
 
-pub countable_at : (ss : List PlainStatement) (o : Outline) (p : PlainProgram) → o ≡ outline_of ss → p ≡ program_by o ss → names_refusal o ≡ None → shape_refusal o p ≡ None → size_refusal o p ≡ None → IsCountable p
+pub countable_at : (ss : List PlainStatement) (o : Outline) (p : PlainProgram) → o ≡ outline_of ss → p ≡ program_by o ss → names_refusal o ≡ None →
+    shape_refusal o p ≡ None → size_refusal o p ≡ None → IsCountable p
 countable_at ss o p e f = rw (f, e) (countable ss)
 
-pub few_made_at : (bytes : List ℕ) (ss : List PlainStatement) (o : Outline) (parts : Parts) → o ≡ outline_of ss → plain parts ≡ program_by o ss → length bytes < 2 ^ 32 → IsSyntax (tokens_of bytes) ss → length parts.tensors < 2 ^ 32
+pub few_made_at : (bytes : List ℕ) (ss : List PlainStatement) (o : Outline) (parts : Parts) → o ≡ outline_of ss → plain parts ≡ program_by o ss →
+    length bytes < 2 ^ 32 → IsSyntax (tokens_of bytes) ss → length parts.tensors < 2 ^ 32
 few_made_at bytes ss o parts e f short syn =
-    let same : length parts.tensors ≡ length (program_by (outline_of ss) ss).tensors = sym (length-map parts.tensors plain_tensor) ∙ (ap (λ (p : PlainProgram). length p.tensors) f ∙ ap (λ (u : Outline). length (program_by u ss).tensors) e) in
+    let same : length parts.tensors ≡ length (program_by (outline_of ss) ss).tensors = sym (length-map parts.tensors plain_tensor) ∙
+    (ap (λ (p : PlainProgram). length p.tensors) f ∙ ap (λ (u : Outline). length (program_by u ss).tensors) e) in
     rw same (few_made bytes ss short syn)
 
-pub valid_at : (bytes : List ℕ) (ss : List PlainStatement) (parts : Parts) → plain parts ≡ program_by (outline_of ss) ss → IsSyntax (tokens_of bytes) ss → refusal_by (outline_of ss) (plain parts) ≡ None → IsValid (plain parts)
+pub valid_at : (bytes : List ℕ) (ss : List PlainStatement) (parts : Parts) → plain parts ≡ program_by (outline_of ss) ss → IsSyntax (tokens_of bytes) ss →
+    refusal_by (outline_of ss) (plain parts) ≡ None → IsValid (plain parts)
 valid_at bytes ss parts e syn none = rw e (valid bytes ss syn (rw e at none))
 
-pub refused_at : (ss : List PlainStatement) (parts : Parts) {r : Option Refusal} → plain parts ≡ program_by (outline_of ss) ss → r ≡ refusal_by (outline_of ss) (plain parts) → statement_refusal ss ≡ r
+pub refused_at : (ss : List PlainStatement) (parts : Parts) {r : Option Refusal} → plain parts ≡ program_by (outline_of ss) ss →
+    r ≡ refusal_by (outline_of ss) (plain parts) → statement_refusal ss ≡ r
 refused_at ss parts e f = sym (f ∙ ap (refusal_by (outline_of ss)) e)

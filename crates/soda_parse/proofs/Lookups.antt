@@ -2,38 +2,16 @@
 use Rattle.std.proofs.Common.{◌≡◌, ℕ, zero, suc, ◌+◌, ◌==◌, ◌&&◌, ◌||◌, Bool, true, false, not, List, [], ◌∷◌, ◌++◌, length, map, Some, None, Option, refl, sym, ap, ◌∙◌, arith, cond}
 use Rattle.std.specs.Prelude.{nat_lt, option_map, position, slice_get}
 use Rattle.std.specs.List.{list_any, position_or_len}
-use Rattle.std.proofs.lemmas.Bool.{eqb-true, eq-eqb}
+use Rattle.std.proofs.lemmas.Bool.{eqb-true, eq-eqb, not-true}
 use Rattle.std.proofs.lemmas.Bool.Decides.{nat_tests}
 use Rattle.std.proofs.Math.Dec.{eqb-suc-zero}
 use Rattle.soda_words.specs.Names.{behind, is_free_name, is_word}
 use Rattle.soda_words.specs.Tokens.{or_else}
 use Rattle.soda_ir.specs.Valid.{are_free_names}
 use Rattle.soda_parse.proofs.SameTypes.{both_of}
-
-abbrev word_by : Option (List ℕ) → Bool → Bool
-word_by more t = elim (cond t more None) as (λ (r : Option (List ℕ)). Bool) [ None ↦ false | Some rest ↦ length rest == 0 ]
-
-word_step : (a b : ℕ) (cs bs : List ℕ) (t : Bool) → (a == b) ≡ t → is_word (a ∷ cs) (b ∷ bs) ≡ cond t (is_word cs bs) false
-word_step a b cs bs true e = ap (word_by (behind cs bs)) e
-word_step a b cs bs false e = ap (word_by (behind cs bs)) e
-
-flip_eq : (a b : ℕ) (t u : Bool) → (a == b) ≡ t → (b == a) ≡ u → t ≡ u
-flip_eq a b true true e f = refl
-flip_eq a b false false e f = refl
-flip_eq a b true false e f = sym (eq-eqb b a (sym (eqb-true a b e))) ∙ f
-flip_eq a b false true e f = sym e ∙ eq-eqb a b (sym (eqb-true b a f))
-
-pub word_sym : (a b : List ℕ) → is_word a b ≡ is_word b a
-word_sym [] [] = refl
-word_sym [] (b ∷ bs) = eqb-suc-zero (length bs)
-word_sym (a ∷ cs) [] = sym (eqb-suc-zero (length cs))
-word_sym (a ∷ cs) (b ∷ bs) =
-    let s : (a == b) ≡ (b == a) = flip_eq a b (a == b) (b == a) refl refl in
-    word_step a b cs bs (b == a) s ∙ (ap (λ (t : Bool). cond (b == a) t false) (word_sym cs bs) ∙ sym (word_step b a bs cs (b == a) refl))
-
-pub word_self : (w : List ℕ) → is_word w w ≡ true
-word_self [] = refl
-word_self (a ∷ cs) = word_step a a cs cs true (eq-eqb a a refl) ∙ word_self cs
+use Rattle.std.proofs.lemmas.Option.{same_Some}
+use Rattle.soda_parse.proofs.Truths.{or_second, neither_of}
+use Rattle.soda_words.proofs.CallerLemmas.{is_word-turned, is_word-itself}
 
 -- the first place
 below_first : (n : ℕ) → cond {A = Option ℕ} (nat_lt 0 (suc n)) (Some 0) None ≡ Some 0
@@ -48,7 +26,8 @@ below_more i n = grind (arith, nat_tests)
 pub place_next : {A : Type 0} (test : A → Bool) (x : A) (xs : List A) → test x ≡ false → position test (x ∷ xs) ≡ option_map suc (position test xs)
 place_next test x xs e = rw e (below_more (position_or_len test xs) (length xs))
 
-place_by : {A B : Type 0} (test : B → Bool) (f : A → B) (x : A) (xs : List A) (t : Bool) → test (f x) ≡ t → position (λ y. test (f y)) xs ≡ position test (map f xs) → position (λ y. test (f y)) (x ∷ xs) ≡ position test (map f (x ∷ xs))
+place_by : {A B : Type 0} (test : B → Bool) (f : A → B) (x : A) (xs : List A) (t : Bool) → test (f x) ≡ t →
+    position (λ y. test (f y)) xs ≡ position test (map f xs) → position (λ y. test (f y)) (x ∷ xs) ≡ position test (map f (x ∷ xs))
 place_by test f x xs true e more = place_first (λ y. test (f y)) x xs e ∙ sym (place_first test (f x) (map f xs) e)
 place_by test f x xs false e more =
     place_next (λ y. test (f y)) x xs e ∙ (ap (option_map suc) more ∙ sym (place_next test (f x) (map f xs) e))
@@ -66,43 +45,37 @@ shift_more n (Some a) b = refl
 shift_more n None None = refl
 shift_more n None (Some k) = ap (λ (m : ℕ). Some m) (omega arith)
 
-two_by : {A : Type 0} (test : A → Bool) (x : A) (xs ys : List A) (t : Bool) → test x ≡ t → or_else (position test xs) (option_map (λ k. length xs + k) (position test ys)) ≡ position test (xs ++ ys) → or_else (position test (x ∷ xs)) (option_map (λ k. suc (length xs) + k) (position test ys)) ≡ position test (x ∷ (xs ++ ys))
+two_by : {A : Type 0} (test : A → Bool) (x : A) (xs ys : List A) (t : Bool) → test x ≡ t →
+    or_else (position test xs) (option_map (λ k. length xs + k) (position test ys)) ≡ position test (xs ++ ys) →
+    or_else (position test (x ∷ xs)) (option_map (λ k. suc (length xs) + k) (position test ys)) ≡ position test (x ∷ (xs ++ ys))
 two_by test x xs ys true e more =
-    ap (λ (r : Option ℕ). or_else r (option_map (λ k. suc (length xs) + k) (position test ys))) (place_first test x xs e) ∙ sym (place_first test x (xs ++ ys) e)
+    ap (λ (r : Option ℕ). or_else r (option_map (λ k. suc (length xs) + k) (position test ys))) (place_first test x xs e) ∙
+    sym (place_first test x (xs ++ ys) e)
 two_by test x xs ys false e more =
     ap (λ (r : Option ℕ). or_else r (option_map (λ k. suc (length xs) + k) (position test ys))) (place_next test x xs e)
     ∙ (shift_more (length xs) (position test xs) (position test ys) ∙ (ap (option_map suc) more ∙ sym (place_next test x (xs ++ ys) e)))
 
-pub place_in_two : {A : Type 0} (test : A → Bool) (xs ys : List A) → or_else (position test xs) (option_map (λ k. length xs + k) (position test ys)) ≡ position test (xs ++ ys)
+pub place_in_two : {A : Type 0} (test : A → Bool) (xs ys : List A) → or_else (position test xs) (option_map (λ k. length xs + k) (position test ys)) ≡
+    position test (xs ++ ys)
 place_in_two test [] ys = shift_0 (position test ys)
 place_in_two test (x ∷ xs) ys = two_by test x xs ys (test x) refl (place_in_two test xs ys)
 
-any_by : {A B : Type 0} (test : B → Bool) (f : A → B) (xs : List A) → list_any (λ y. test (f y)) xs ≡ list_any test (map f xs)
-any_by test f [] = refl
-any_by test f (x ∷ xs) = ap (λ (b : Bool). test (f x) || b) (any_by test f xs)
-
+-- a test of images is a test of what they are images of
 pub any_mapped : {A B : Type 0} (test : B → Bool) (f : A → B) (xs : List A) → list_any (λ y. test (f y)) xs ≡ list_any test (map f xs)
-any_mapped test f xs = any_by test f xs
+any_mapped test f [] = refl
+any_mapped test f (x ∷ xs) = ap (λ (b : Bool). test (f x) || b) (any_mapped test f xs)
 
 -- each name is free, and like none behind it
 abbrev pub Fresh : List (List ℕ) → Type 0
 Fresh [] = Unit {0}
 Fresh (w ∷ ws) = (is_free_name w ≡ true) × (list_any (is_word w) ws ≡ false) × Fresh ws
 
-not_true : (b : Bool) → not b ≡ true → b ≡ false
-not_true true e = cc
-not_true false e = refl
-
 pub fresh : (ws : List (List ℕ)) → are_free_names ws ≡ true → Fresh ws
 fresh [] h = tt
 fresh (w ∷ ws) h =
     let a = both_of (is_free_name w && not (list_any (is_word w) ws)) (are_free_names ws) h in
     let b = both_of (is_free_name w) (not (list_any (is_word w) ws)) a.0 in
-    (b.0, not_true (list_any (is_word w) ws) b.1, fresh ws a.1)
-
-pub neither_of : (a b : Bool) → (a || b) ≡ false → (a ≡ false) × (b ≡ false)
-neither_of true b e = cc
-neither_of false b e = (refl, e)
+    (b.0, not-true (list_any (is_word w) ws) b.1, fresh ws a.1)
 
 front_none : (v : List ℕ) (us ws : List (List ℕ)) → list_any (is_word v) (us ++ ws) ≡ false → list_any (is_word v) us ≡ false
 front_none v [] ws e = refl
@@ -118,36 +91,29 @@ pub fresh_back : (vs ws : List (List ℕ)) → Fresh (vs ++ ws) → Fresh ws
 fresh_back [] ws f = f
 fresh_back (v ∷ vs) ws f = fresh_back vs ws f.2
 
-same_at : {A : Type 0} (a b : A) → Some a ≡ Some b → a ≡ b
-same_at a b e = cc
-
 -- a test that fails for all fails for the one at a place
 pub fails_there : (test : List ℕ → Bool) (ws : List (List ℕ)) (k : ℕ) (w : List ℕ) → list_any test ws ≡ false → slice_get ws k ≡ Some w → test w ≡ false
 fails_there test [] k w e f = cc
-fails_there test (v ∷ ws) zero w e f = ap test (sym (same_at v w f)) ∙ (neither_of (test v) (list_any test ws) e).0
+fails_there test (v ∷ ws) zero w e f = ap test (sym (same_Some v w f)) ∙ (neither_of (test v) (list_any test ws) e).0
 fails_there test (v ∷ ws) (suc k) w e f = fails_there test ws k w (neither_of (test v) (list_any test ws) e).1 f
 
 -- a name stands where it stands
 pub place_there : (ws : List (List ℕ)) (k : ℕ) (w : List ℕ) → Fresh ws → slice_get ws k ≡ Some w → position (is_word w) ws ≡ Some k
 place_there [] k w f e = cc
-place_there (v ∷ ws) zero w f e = place_first (is_word w) v ws (ap (is_word w) (same_at v w e) ∙ word_self w)
+place_there (v ∷ ws) zero w f e = place_first (is_word w) v ws (ap (is_word w) (same_Some v w e) ∙ is_word-itself w)
 place_there (v ∷ ws) (suc k) w f e =
-    let other : is_word w v ≡ false = word_sym w v ∙ fails_there (is_word v) ws k w f.1 e in
+    let other : is_word w v ≡ false = is_word-turned w v ∙ fails_there (is_word v) ws k w f.1 e in
     place_next (is_word w) v ws other ∙ ap (option_map suc) (place_there ws k w f.2 e)
-
-or_more : (a b : Bool) → b ≡ true → (a || b) ≡ true
-or_more true b e = refl
-or_more false b e = e
 
 -- a name is one of those where it stands
 pub one_there : (ws : List (List ℕ)) (k : ℕ) (w : List ℕ) → slice_get ws k ≡ Some w → list_any (is_word w) ws ≡ true
 one_there [] k w e = cc
-one_there (v ∷ ws) zero w e = rw (ap (is_word w) (same_at v w e) ∙ word_self w) refl
-one_there (v ∷ ws) (suc k) w e = or_more (is_word w v) (list_any (is_word w) ws) (one_there ws k w e)
+one_there (v ∷ ws) zero w e = rw (ap (is_word w) (same_Some v w e) ∙ is_word-itself w) refl
+one_there (v ∷ ws) (suc k) w e = or_second (is_word w v) (list_any (is_word w) ws) (one_there ws k w e)
 
 pub there_mapped : {A B : Type 0} (f : A → B) (xs : List A) (k : ℕ) (x : A) → slice_get xs k ≡ Some x → slice_get (map f xs) k ≡ Some (f x)
 there_mapped f [] k x e = cc
-there_mapped f (y ∷ xs) zero x e = ap (λ z. Some (f z)) (same_at y x e)
+there_mapped f (y ∷ xs) zero x e = ap (λ z. Some (f z)) (same_Some y x e)
 there_mapped f (y ∷ xs) (suc k) x e = there_mapped f xs k x e
 
 pub there_front : {A : Type 0} (xs ys : List A) (k : ℕ) (x : A) → slice_get xs k ≡ Some x → slice_get (xs ++ ys) k ≡ Some x

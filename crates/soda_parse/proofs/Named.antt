@@ -74,8 +74,16 @@ word_front b bs = record { token = Some (word_token (b ∷ first_word bs)); more
 fine_front : (b : ℕ) (bs : List ℕ) → MayBeFine (front_of b bs).token
 unfolding front_of
 fine_front b bs =
-    let word : MayBeFine (word_front b bs).token = fine_word_token (b ∷ first_word bs) (is_name (b ∷ first_word bs)) (cond (is_number (b ∷ first_word bs)) (Number (value_behind 0 (b ∷ first_word bs))) Bad) refl (fine_number (is_number (b ∷ first_word bs)) (value_behind 0 (b ∷ first_word bs))) in
-    either_front (is_white b) (record { token = None; more = 0 }) (cond (b == 35) (comment_front bs) (cond (is_word_byte b) (word_front b bs) (symbol_front b bs))) tt (either_front (b == 35) (comment_front bs) (cond (is_word_byte b) (word_front b bs) (symbol_front b bs)) tt (either_front (is_word_byte b) (word_front b bs) (symbol_front b bs) word (fine_symbol b bs)))
+    let word : MayBeFine (word_front b bs).token =
+    fine_word_token (b ∷ first_word bs) (is_name (b ∷ first_word bs)) (cond (is_number (b ∷ first_word bs))
+    (Number (value_behind 0 (b ∷ first_word bs))) Bad) refl (fine_number (is_number (b ∷ first_word bs)) (value_behind 0 (b ∷ first_word bs))) in
+    either_front (is_white b) (record {
+      token = None;
+      more =
+          0;
+    }) (cond (b == 35) (comment_front bs) (cond (is_word_byte b) (word_front b bs) (symbol_front b bs))) tt
+    (either_front (b == 35) (comment_front bs) (cond (is_word_byte b) (word_front b bs) (symbol_front b bs)) tt
+    (either_front (is_word_byte b) (word_front b bs) (symbol_front b bs) word (fine_symbol b bs)))
 
 fine_both : (xs ys : List Placed) → AreFine xs → AreFine ys → AreFine (xs ++ ys)
 fine_both [] ys h k = k
@@ -89,7 +97,8 @@ tokens_fine : (k line : ℕ) (bs : List ℕ) → AreFine (tokens_behind k line b
 unfolding tokens_behind
 tokens_fine k line [] = tt
 tokens_fine zero line (b ∷ bs) =
-    fine_both (placed line (front_of b bs).token) _ (fine_placed line (front_of b bs).token (fine_front b bs)) (tokens_fine (front_of b bs).more (line_behind line b) bs)
+    fine_both (placed line (front_of b bs).token) _ (fine_placed line (front_of b bs).token (fine_front b bs))
+    (tokens_fine (front_of b bs).more (line_behind line b) bs)
 tokens_fine (suc k) line (b ∷ bs) = tokens_fine k (line_behind line b) bs
 
 fine_left : (xs ys : List Placed) → AreFine (xs ++ ys) → AreFine xs
@@ -160,7 +169,8 @@ declared_named (local f ∷ ss) h = rw h.0 (declared_named ss h.1)
 declared_named (output f ∷ ss) h = rw h.0 (declared_named ss h.1)
 
 -- the name of the program is a name
-pub kernel_named : (ss : List PlainStatement) → AreNamed ss → list_any (is_kind Kernel) (outline_of ss).settings ≡ true → is_name (unwrap_or (first_by kernel_in ss) []) ≡ true
+pub kernel_named : (ss : List PlainStatement) → AreNamed ss → list_any (is_kind Kernel) (outline_of ss).settings ≡ true →
+    is_name (unwrap_or (first_by kernel_in ss) []) ≡ true
 unfolding outline_of outline_in
 kernel_named [] h e = cc
 kernel_named (kernel l w ∷ ss) h e = h.0
@@ -174,7 +184,8 @@ kernel_named (input i ∷ ss) h e = kernel_named ss h.1 e
 kernel_named (local f ∷ ss) h e = kernel_named ss h.1 e
 kernel_named (output f ∷ ss) h e = kernel_named ss h.1 e
 
-nonzero_sizes : (o : Outline) (sizes : List Size) (ys : List Site) → find (is_wrong_site o) (map (λ s. SiteSize s) sizes ++ ys) ≡ None → (list_all (λ n. not (n == 0)) (map (λ s. s.value) sizes) ≡ true) × (find (is_wrong_site o) ys ≡ None)
+nonzero_sizes : (o : Outline) (sizes : List Size) (ys : List Site) → find (is_wrong_site o) (map (λ s. SiteSize s) sizes ++ ys) ≡ None →
+    (list_all (λ n. not (n == 0)) (map (λ s. s.value) sizes) ≡ true) × (find (is_wrong_site o) ys ≡ None)
 nonzero_sizes o [] ys e = (refl, e)
 nonzero_sizes o (s ∷ ss) ys e =
     let here = none_here (is_wrong_site o) (SiteSize s) (map (λ t. SiteSize t) ss ++ ys) e in
@@ -185,7 +196,8 @@ past_line : (o : Outline) (xs ys : List Site) (x : Site) → find (is_wrong_site
 past_line o xs ys x e = (none_in_both (is_wrong_site o) xs ys (none_here (is_wrong_site o) x (xs ++ ys) e).1).1
 
 -- each param has at most two sizes, none of them 0
-pub params_good : (o : Outline) (ss : List PlainStatement) → AreNamed ss → find (is_wrong_site o) (outline_of ss).sites ≡ None → list_all is_good_param (map param_of (outline_of ss).params) ≡ true
+pub params_good : (o : Outline) (ss : List PlainStatement) → AreNamed ss → find (is_wrong_site o) (outline_of ss).sites ≡ None →
+    list_all is_good_param (map param_of (outline_of ss).params) ≡ true
 unfolding outline_of outline_in
 params_good o [] h e = refl
 params_good o (kernel l w ∷ ss) h e = params_good o ss h.1 e

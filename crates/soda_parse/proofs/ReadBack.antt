@@ -21,9 +21,12 @@ use Rattle.soda_formula.specs.declared.statement.Size.{Size}
 use Rattle.soda_words.specs.declared.token.Word.{Word}
 use Rattle.soda_words.specs.Names.{is_word}
 use Rattle.soda_parse.proofs.SameTypes.{both_of}
-use Rattle.soda_parse.proofs.Lookups.{Fresh, fails_there, place_first, place_next, word_self, word_sym}
+use Rattle.soda_parse.proofs.Lookups.{Fresh, fails_there, place_first, place_next}
 use Rattle.soda_parse.proofs.Back.{IsBack, IsTyped, param_lines}
 use Rattle.soda_parse.proofs.Statements.{param_on, word, written_value, zeros}
+use Rattle.std.proofs.lemmas.Bool.{ltb-true}
+use Rattle.soda_parse.proofs.Truths.{le_true, lt_true}
+use Rattle.soda_words.proofs.CallerLemmas.{is_word-turned, is_word-itself}
 
 -- what stands under a param's name
 pub record IsParamAt (params : List ParamLine) (k : ℕ) (q : PlainParam) (w : Word) : Type 0 where
@@ -36,14 +39,15 @@ same_param a b e = cc
 
 found_first : (line : ℕ) (r q : PlainParam) (qs : List PlainParam) (w : Word) → r ≡ q → w.text ≡ q.name → IsParamAt (param_lines line (r ∷ qs)) 0 q w
 found_first line r q qs w e n =
-    let same : is_word w.text r.name ≡ true = ap (λ (v : List ℕ). is_word v r.name) (n ∙ ap (λ (s : PlainParam). s.name) (sym e)) ∙ word_self r.name in
+    let same : is_word w.text r.name ≡ true = ap (λ (v : List ℕ). is_word v r.name) (n ∙ ap (λ (s : PlainParam). s.name) (sym e)) ∙ is_word-itself r.name in
     record {
       line = line;
       place = place_first (λ (s : ParamLine). is_same w s.name) (param_on line r) (param_lines (suc line) qs) same;
       found = rw same (ap (λ (s : PlainParam). Some (param_on line s)) e);
     }
 
-found_next : (line : ℕ) (r q : PlainParam) (qs : List PlainParam) (k : ℕ) (w : Word) → is_word w.text r.name ≡ false → IsParamAt (param_lines (suc line) qs) k q w → IsParamAt (param_lines line (r ∷ qs)) (suc k) q w
+found_next : (line : ℕ) (r q : PlainParam) (qs : List PlainParam) (k : ℕ) (w : Word) → is_word w.text r.name ≡ false →
+    IsParamAt (param_lines (suc line) qs) k q w → IsParamAt (param_lines line (r ∷ qs)) (suc k) q w
 found_next line r q qs k w e h = record {
   line = h.line;
   place = place_next (λ (s : ParamLine). is_same w s.name) (param_on line r) (param_lines (suc line) qs) e ∙ ap (option_map suc) h.place;
@@ -55,12 +59,13 @@ name_mapped [] k q e = cc
 name_mapped (r ∷ qs) zero q e = ap (λ (s : PlainParam). Some s.name) (same_param r q e)
 name_mapped (r ∷ qs) (suc k) q e = name_mapped qs k q e
 
-pub param_at : (line : ℕ) (qs : List PlainParam) (k : ℕ) (q : PlainParam) (w : Word) → Fresh (map (λ (r : PlainParam). r.name) qs) → slice_get qs k ≡ Some q → w.text ≡ q.name → IsParamAt (param_lines line qs) k q w
+pub param_at : (line : ℕ) (qs : List PlainParam) (k : ℕ) (q : PlainParam) (w : Word) → Fresh (map (λ (r : PlainParam). r.name) qs) →
+    slice_get qs k ≡ Some q → w.text ≡ q.name → IsParamAt (param_lines line qs) k q w
 param_at line [] k q w f e n = cc
 param_at line (r ∷ qs) zero q w f e n = found_first line r q qs w (same_param r q e) n
 param_at line (r ∷ qs) (suc k) q w f e n =
     let other : is_word r.name q.name ≡ false = fails_there (is_word r.name) (map (λ (s : PlainParam). s.name) qs) k q.name f.1 (name_mapped qs k q e) in
-    let apart : is_word w.text r.name ≡ false = ap (λ (v : List ℕ). is_word v r.name) n ∙ (word_sym q.name r.name ∙ other) in
+    let apart : is_word w.text r.name ≡ false = ap (λ (v : List ℕ). is_word v r.name) n ∙ (is_word-turned q.name r.name ∙ other) in
     found_next line r q qs k w apart (param_at (suc line) qs k q w f.2 e n)
 
 -- the sizes of a line
@@ -71,12 +76,6 @@ sizes_on line ns = map (λ n. record { line = line; value = n }) ns
 pub record IsIndexed (sizes : List Size) (is : List ℕ) (i : ℕ) : Type 0 where
   pub below : are_below is sizes ≡ true
   pub place : place_at sizes is ≡ i
-
-lt_true : (a b : ℕ) → a < b → nat_lt a b ≡ true
-lt_true a b h = grind (arith, nat_tests)
-
-true_lt : (a b : ℕ) → nat_lt a b ≡ true → a < b
-true_lt a b h = grind (arith, nat_tests)
 
 one_index : (line n i : ℕ) → i < n * 1 → IsIndexed (sizes_on line (n ∷ [])) (i ∷ []) i
 one_index line n i h = record { below = rw (lt_true i n (omega arith)) refl; place = refl }
@@ -96,7 +95,8 @@ indexed line (n ∷ m ∷ []) i few h = two_indexes (m == 0) line n m i refl h
 indexed line (n ∷ m ∷ k ∷ ns) i few h = absurd (omega arith)
 
 -- the value of a param is found again
-value_back : (o : Outline) (line k i : ℕ) (q : PlainParam) → IsParamAt o.params k q (word line q.name) → length q.sizes ≤ 2 → i < size q.sizes → i < 65536 → named_value o.params (word line q.name) (indexes q.sizes i) ≡ value_of k i
+value_back : (o : Outline) (line k i : ℕ) (q : PlainParam) → IsParamAt o.params k q (word line q.name) → length q.sizes ≤ 2 → i < size q.sizes → i < 65536 →
+    named_value o.params (word line q.name) (indexes q.sizes i) ≡ value_of k i
 value_back o line k i q h two within small =
     let ix : IsIndexed (sizes_on h.line q.sizes) (indexes q.sizes i) i = indexed h.line q.sizes i two within in
     let place : place_of (sizes_on h.line q.sizes) (indexes q.sizes i) ≡ i = rw (ix.below, ix.place, lt_true i 65536 small) refl in
@@ -135,21 +135,20 @@ pub cell_there : (p : PlainProgram) (k : ℕ) (ds : List ℤ) → is_good_cell p
 cell_there p k ds h =
     let a = both_of (nat_lt k (length p.tensors) && length ds == suc (length p.extents)) (is_near ds) h in
     let b = both_of (nat_lt k (length p.tensors)) (length ds == suc (length p.extents)) a.0 in
-    record { within = true_lt k (length p.tensors) b.0; many = grind (arith, nat_tests, b.1); near = a.1 }
+    record { within = ltb-true k (length p.tensors) b.0; many = grind (arith, nat_tests, b.1); near = a.1 }
 
-le_true : (a b : ℕ) → a ≤ b → nat_le a b ≡ true
-le_true a b h = grind (arith, nat_tests)
-
-cell_back : (o : Outline) (p : PlainProgram) (line k : ℕ) (ds : List ℤ) → Knows o p → IsCellThere p k ds → cell_formula (tensor_number o (word line (tensor_name p k))) (offset_or_none (shifted ds (zeros p))) ≡ read k ds
+cell_back : (o : Outline) (p : PlainProgram) (line k : ℕ) (ds : List ℤ) → Knows o p → IsCellThere p k ds →
+    cell_formula (tensor_number o (word line (tensor_name p k))) (offset_or_none (shifted ds (zeros p))) ≡ read k ds
 cell_back o p line k ds h there =
     let few : nat_le (length ds) 4 ≡ true = le_true (length ds) 4 (omega (arith, there.many, h.dims)) in
     let stays : offset_or_none ds ≡ ds = rw (few, there.near) refl in
     rw (h.tensors line k there.within, shifted_zeros ds p.extents) (ap (λ (es : List ℤ). read k es) stays)
 
-place_back : (o : Outline) (p : PlainProgram) (line k i : ℕ) (r : Option PlainParam) → Knows o p → slice_get p.params k ≡ r → (elim r as (λ v. Bool) [ None ↦ false | Some q ↦ nat_lt i (size q.sizes) ]) ≡ true → meant o (zeros p) (written_value line i r) ≡ value_of k i
+place_back : (o : Outline) (p : PlainProgram) (line k i : ℕ) (r : Option PlainParam) → Knows o p → slice_get p.params k ≡ r →
+    (elim r as (λ v. Bool) [ None ↦ false | Some q ↦ nat_lt i (size q.sizes) ]) ≡ true → meant o (zeros p) (written_value line i r) ≡ value_of k i
 place_back o p line k i None h e u = cc
 place_back o p line k i (Some q) h e u =
-    let within : i < size q.sizes = true_lt i (size q.sizes) u in
+    let within : i < size q.sizes = ltb-true i (size q.sizes) u in
     let few : size q.sizes ≤ 65536 = h.few k q e in
     value_back o line k i q (h.params line k q e) (h.two k q e) within (omega arith)
 

@@ -24,6 +24,8 @@ use Rattle.soda_parse.proofs.Lookups.{Fresh, fresh, fresh_back, fresh_front, pla
 use Rattle.soda_parse.proofs.ReadBack.{IsParamAt, Knows, formula_back, param_at}
 use Rattle.soda_parse.proofs.Statements.{AreOrdered, ordered, statements_of, tile_of, word}
 use Rattle.soda_parse.proofs.TypeWords.{typed}
+use Rattle.std.proofs.lemmas.Option.{same_Some}
+use Rattle.std.proofs.lemmas.Bool.{leb-true}
 
 -- the outline of a program's statements
 abbrev pub outline : PlainProgram → Outline
@@ -62,30 +64,27 @@ tensor_there p k h = name_there p.tensors k h
 
 numbered : (p : PlainProgram) → IsValid p → (line k : ℕ) → k < length p.tensors → tensor_number (outline p) (word line (tensor_name p k)) ≡ Some k
 numbered p v line k h =
-    let f : Fresh (map (λ (t : PlainTensor). t.name) p.tensors) = fresh_back (map (λ (q : PlainParam). q.name) p.params) (map (λ (t : PlainTensor). t.name) p.tensors) (names_fresh p v) in
-    number_is (outline p) (word line (tensor_name p k)) ∙ (rw (names_are p v) (place_there (map (λ (t : PlainTensor). t.name) p.tensors) k (tensor_name p k) f (tensor_there p k h)))
+    let f : Fresh (map (λ (t : PlainTensor). t.name) p.tensors) =
+    fresh_back (map (λ (q : PlainParam). q.name) p.params) (map (λ (t : PlainTensor). t.name) p.tensors) (names_fresh p v) in
+    number_is (outline p) (word line (tensor_name p k)) ∙
+    (rw (names_are p v) (place_there (map (λ (t : PlainTensor). t.name) p.tensors) k (tensor_name p k) f (tensor_there p k h)))
 
 valued : (p : PlainProgram) → IsValid p → (line k : ℕ) (q : PlainParam) → slice_get p.params k ≡ Some q → IsParamAt (outline p).params k q (word line q.name)
 valued p v line k q e =
-    let f : Fresh (map (λ (r : PlainParam). r.name) p.params) = fresh_front (map (λ (r : PlainParam). r.name) p.params) (map (λ (t : PlainTensor). t.name) p.tensors) (names_fresh p v) in
+    let f : Fresh (map (λ (r : PlainParam). r.name) p.params) =
+    fresh_front (map (λ (r : PlainParam). r.name) p.params) (map (λ (t : PlainTensor). t.name) p.tensors) (names_fresh p v) in
     subst (λ (ls : List ParamLine). IsParamAt ls k q (word line q.name)) (sym (params_are p v)) (param_at 6 p.params k q (word line q.name) f e refl)
-
-same_value : {A : Type 0} (a b : A) → Some a ≡ Some b → a ≡ b
-same_value a b e = cc
 
 -- what passes for all passes for the one at a place
 pub all_there : {A : Type 0} (test : A → Bool) (xs : List A) (k : ℕ) (x : A) → list_all test xs ≡ true → slice_get xs k ≡ Some x → test x ≡ true
 all_there test [] k x h e = cc
-all_there test (y ∷ xs) zero x h e = ap test (sym (same_value y x e)) ∙ (both_of (test y) (list_all test xs) h).0
+all_there test (y ∷ xs) zero x h e = ap test (sym (same_Some y x e)) ∙ (both_of (test y) (list_all test xs) h).0
 all_there test (y ∷ xs) (suc k) x h e = all_there test xs k x (both_of (test y) (list_all test xs) h).1 e
-
-true_le : (a b : ℕ) → nat_le a b ≡ true → a ≤ b
-true_le a b h = grind (arith, nat_tests)
 
 two_sizes : (p : PlainProgram) → IsValid p → (k : ℕ) (q : PlainParam) → slice_get p.params k ≡ Some q → length q.sizes ≤ 2
 two_sizes p v k q e =
     let good : is_good_param q ≡ true = all_there is_good_param p.params k q v.sound.parts.params e in
-    true_le (length q.sizes) 2 (both_of (nat_le (length q.sizes) 2) _ good).0
+    leb-true (length q.sizes) 2 (both_of (nat_le (length q.sizes) 2) _ good).0
 
 few_values : (p : PlainProgram) → IsValid p → (k : ℕ) (q : PlainParam) → slice_get p.params k ≡ Some q → size q.sizes ≤ 65536
 few_values p v k q e = omega (arith, count_there p.params k q e, v.sound.limits.few_values)
@@ -104,7 +103,9 @@ all_typed : (qs : List PlainParam) → AreSizedParams qs → AreTyped qs
 all_typed [] h = tt
 all_typed (q ∷ qs) h = (typed q.ty h.0, all_typed qs h.1)
 
-body_back : (o : Outline) (p : PlainProgram) (r : Option Formula) → Knows o p → (elim r as (λ v. Bool) [ None ↦ true | Some f ↦ each_use (is_good_cell p) (is_good_place p) f ]) ≡ true → (elim r as (λ v. Type 0) [ None ↦ Unit {0} | Some f ↦ IsSized f ]) → (elim r as (λ v. Type 0) [ None ↦ Unit {0} | Some f ↦ IsBack o p f ])
+body_back : (o : Outline) (p : PlainProgram) (r : Option Formula) → Knows o p →
+    (elim r as (λ v. Bool) [ None ↦ true | Some f ↦ each_use (is_good_cell p) (is_good_place p) f ]) ≡ true →
+    (elim r as (λ v. Type 0) [ None ↦ Unit {0} | Some f ↦ IsSized f ]) → (elim r as (λ v. Type 0) [ None ↦ Unit {0} | Some f ↦ IsBack o p f ])
 body_back o p None h u s = tt
 body_back o p (Some f) h u s = formula_back o p f h u s
 
@@ -119,16 +120,19 @@ border_back Ignore = refl
 border_back Preserve = refl
 
 abbrev with_parts : PlainProgram → Border → List PlainParam → List ℕ → List PlainTensor → PlainProgram
-with_parts p b qs ns ts = record { kernel = p.kernel; burst = p.burst; unroll = p.unroll; iterate = p.iterate; border = b; params = qs; extents = ns; tensors = ts }
+with_parts p b qs ns ts =
+    record { kernel = p.kernel; burst = p.burst; unroll = p.unroll; iterate = p.iterate; border = b; params = qs; extents = ns; tensors = ts }
 
-same_parts : (p : PlainProgram) (b : Border) (qs : List PlainParam) (ns : List ℕ) (ts : List PlainTensor) → b ≡ p.border → qs ≡ p.params → ns ≡ p.extents → ts ≡ p.tensors → with_parts p b qs ns ts ≡ p
+same_parts : (p : PlainProgram) (b : Border) (qs : List PlainParam) (ns : List ℕ) (ts : List PlainTensor) → b ≡ p.border → qs ≡ p.params → ns ≡ p.extents →
+    ts ≡ p.tensors → with_parts p b qs ns ts ≡ p
 same_parts p b qs ns ts e f g h =
     ap (λ (x : Border). with_parts p x qs ns ts) e
     ∙ (ap (λ (x : List PlainParam). with_parts p p.border x ns ts) f
     ∙ (ap (λ (x : List ℕ). with_parts p p.border p.params x ts) g
     ∙ ap (λ (x : List PlainTensor). with_parts p p.border p.params p.extents x) h))
 
-tensors_are : (o : Outline) (p : PlainProgram) → IsValid p → AreBack o p p.tensors → map input_of (outline p).inputs ++ flat_map (tensors_in o) (statements_of p) ≡ p.tensors
+tensors_are : (o : Outline) (p : PlainProgram) → IsValid p → AreBack o p p.tensors →
+    map input_of (outline p).inputs ++ flat_map (tensors_in o) (statements_of p) ≡ p.tensors
 unfolding outline_of outline_in statements_of
 tensors_are o p v h = outline_tensors o p 6 p.params (tensors_ordered p v) h
 
@@ -139,7 +143,9 @@ params_read : (p : PlainProgram) → IsValid p → IsSizedProgram p → map para
 params_read p v s = rw (params_are p v) (params_back 6 p.params (all_typed p.params s.params))
 
 -- the program of the statements is the program
-by_parts : (p : PlainProgram) → program_by (outline p) (statements_of p) ≡ with_parts p (border_of (preserves p)) (map param_of (outline p).params) (flat_map fixed_in (unwrap_or (first_tile (outline p).inputs) [])) (map input_of (outline p).inputs ++ flat_map (tensors_in (outline p)) (statements_of p))
+by_parts : (p : PlainProgram) → program_by (outline p) (statements_of p) ≡
+    with_parts p (border_of (preserves p)) (map param_of (outline p).params) (flat_map fixed_in (unwrap_or (first_tile (outline p).inputs) []))
+    (map input_of (outline p).inputs ++ flat_map (tensors_in (outline p)) (statements_of p))
 unfolding outline_of outline_in statements_of
 by_parts p = refl
 

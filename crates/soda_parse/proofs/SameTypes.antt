@@ -15,7 +15,8 @@ pub both_of : (a b : Bool) → (a && b) ≡ true → (a ≡ true) × (b ≡ true
 both_of true b h = (refl, h)
 both_of false b h = cc
 
-equal_fields : (s t : Bool) (m n : ℕ) → (cond s t (not t) && (m == n)) ≡ true → ◌≡◌ {A = IntType} (record { signed = s; bits = m }) (record { signed = t; bits = n })
+equal_fields : (s t : Bool) (m n : ℕ) → (cond s t (not t) && (m == n)) ≡ true → ◌≡◌ {A =
+    IntType} (record { signed = s; bits = m }) (record { signed = t; bits = n })
 equal_fields true true m n h = ap (λ (k : ℕ). record { signed = true; bits = k }) (eqb-true m n h)
 equal_fields false false m n h = ap (λ (k : ℕ). record { signed = false; bits = k }) (eqb-true m n h)
 equal_fields true false m n h = cc

@@ -15,7 +15,7 @@ use Rattle.soda_ir.specs.Uses.{each_use, is_good_cell, is_good_place}
 use Rattle.soda_ir.specs.Written.{left_pairs, most_open, pairs_round, right_pairs, token_count}
 use Rattle.soda_print.specs.Canonical.{indexes, tensor_name, type_text}
 use Rattle.soda_print.specs.Sized.{IsSized}
-use Rattle.soda_print.proofs.CallerLemmas.{call_tokens, component_tokens, formula_tokens, index_tokens, listed_tokens, pair_tokens, parted_tokens}
+use Rattle.soda_print.proofs.CallerLemmas.{call_tokens, component_tokens, formula_tokens, index_tokens, listed_tokens, pair_tokens, parted_tokens, few_indexes}
 use Rattle.soda_syntax.proofs.CallerLemmas.{IsSmallFormula}
 use Rattle.soda_words.specs.Names.{is_cast_word, is_reserved}
 use Rattle.soda_words.specs.declared.symbol.Symbol.{Symbol}
@@ -26,179 +26,68 @@ use Rattle.soda_words.specs.declared.token.Token.TheVariants.{Name, Sign}
 use Rattle.soda_parse.proofs.ReadBack.{cell_there}
 use Rattle.soda_parse.proofs.SameTypes.{both_of}
 use Rattle.soda_parse.proofs.WrittenFormulas.{IsFree, cast_word, numbers, offsets, on, on_both}
-
--- behind a name that offsets may follow, what comes counts as it does elsewhere
-abbrev Closed : List Placed → Type 0
-Closed rest = counted_tokens_from behind_name rest ≡ counted_tokens_from outside rest
-
--- the most brackets that are open at once, where so many are open before
-abbrev peak : ℕ → List Placed → ℕ
-peak k [] = k
-peak k (t ∷ ts) = max k (peak (open_behind k t.token) ts)
-
-peak_least : (k : ℕ) (ts : List Placed) → k ≤ peak k ts
-peak_least k [] = omega arith
-peak_least k (t ∷ ts) = omega arith
-
--- at most n tokens count, and at most m brackets are open at once, wherever these tokens stand
-record Costs (n m : ℕ) (ts : List Placed) : Type 0 where
-  pub counts : (rest : List Placed) → Closed rest → counted_tokens_from outside (ts ++ rest) ≤ n + counted_tokens_from outside rest
-  pub opens : (k : ℕ) (rest : List Placed) → peak k (ts ++ rest) ≤ max (m + k) (peak k rest)
-
-costs_more : (n m a b : ℕ) (ts : List Placed) → Costs n m ts → n ≤ a → m ≤ b → Costs a b ts
-costs_more n m a b ts t le most = record {
-  counts = λ rest closed. omega (arith, t.counts rest closed);
-  opens = λ k rest. omega (arith, t.opens k rest);
-}
-
--- a symbol that is no bracket
-record IsPassing (s : Symbol) : Type 0 where
-  pub level : (k : ℕ) → open_behind k (Sign s) ≡ k
-  pub behind : place_behind behind_name (Sign s) ≡ outside
-
-passes : (s : Symbol) → ((k : ℕ) → open_behind k (Sign s) ≡ k) → place_behind behind_name (Sign s) ≡ outside → IsPassing s
-passes s h e = record { level = h; behind = e }
-
-passing_closed : (line : ℕ) (s : Symbol) (rest : List Placed) → IsPassing s → Closed (symbol_on line s ∷ rest)
-passing_closed line s rest pass = ap (λ (q : Place). 1 + counted_tokens_from q rest) pass.behind
-
-passing_peak : (line : ℕ) (s : Symbol) (k : ℕ) (rest : List Placed) → IsPassing s → peak k (symbol_on line s ∷ rest) ≤ peak k rest
-passing_peak line s k rest pass =
-    let same : peak (open_behind k (Sign s)) rest ≡ peak k rest = ap (λ (n : ℕ). peak n rest) (pass.level k) in
-    omega (arith, peak_least k rest)
-
-costs_joined : (n m a b line : ℕ) (s : Symbol) (ts us : List Placed) → IsPassing s → Costs n m ts → Costs a b us → Costs (n + 1 + a) (max m b) (ts ++ symbol_on line s ∷ us)
-costs_joined n m a b line s ts us pass t u = record {
-  counts = λ rest closed. rw (append_assoc ts (symbol_on line s ∷ us) rest) (omega (arith, t.counts (symbol_on line s ∷ (us ++ rest)) (passing_closed line s (us ++ rest) pass), u.counts rest closed));
-  opens = λ k rest. rw (append_assoc ts (symbol_on line s ∷ us) rest) (omega (arith, t.opens k (symbol_on line s ∷ (us ++ rest)), passing_peak line s k (us ++ rest) pass, u.opens k rest));
-}
-
-costs_round : (n m opened closed : ℕ) (ts : List Placed) → Costs n m ts → Costs (n + 2) (m + 1) (symbol_on opened OpenRound ∷ (ts ++ symbol_on closed CloseRound ∷ []))
-costs_round n m opened closed ts t = record {
-  counts = λ rest shut. rw (append_assoc ts (symbol_on closed CloseRound ∷ []) rest) (omega (arith, t.counts (symbol_on closed CloseRound ∷ rest) refl));
-  opens = λ k rest. let less : suc k - 1 ≡ k = omega arith in let same : peak (suc k - 1) rest ≡ peak k rest = ap (λ (i : ℕ). peak i rest) less in rw (append_assoc ts (symbol_on closed CloseRound ∷ []) rest) (omega (arith, same, t.opens (suc k) (symbol_on closed CloseRound ∷ rest)));
-}
-
-costs_sign : (n m line : ℕ) (s : Symbol) (ts : List Placed) → IsPassing s → Costs n m ts → Costs (1 + n) m (symbol_on line s ∷ ts)
-costs_sign n m line s ts pass t = record {
-  counts = λ rest closed. omega (arith, t.counts rest closed);
-  opens = λ k rest. omega (arith, t.opens k rest, passing_peak line s k (ts ++ rest) pass);
-}
-
--- behind a reserved word the place is outside
-reserved_counts : (line : ℕ) (text : List ℕ) (ts : List Placed) → is_reserved text ≡ true → counted_tokens_from outside (name_on line text ∷ ts) ≡ 1 + counted_tokens_from outside ts
-reserved_counts line text ts e = ap (λ (b : Bool). 1 + counted_tokens_from (if b then outside else behind_name) ts) e
-
-free_counts : (line : ℕ) (text : List ℕ) (ts : List Placed) → is_reserved text ≡ false → counted_tokens_from outside (name_on line text ∷ ts) ≡ 1 + counted_tokens_from behind_name ts
-free_counts line text ts e = ap (λ (b : Bool). 1 + counted_tokens_from (if b then outside else behind_name) ts) e
-
-costs_named : (n m line : ℕ) (text : List ℕ) (ts : List Placed) → is_reserved text ≡ true → Costs n m ts → Costs (1 + n) m (name_on line text ∷ ts)
-costs_named n m line text ts e t = record {
-  counts = λ rest closed. omega (arith, reserved_counts line text (ts ++ rest) e, t.counts rest closed);
-  opens = λ k rest. omega (arith, t.opens k rest, peak_least k rest);
-}
-
--- offsets
-component_counts : (ts : List Placed) (d : ℤ) (rest : List Placed) → IsComponent ts d → counted_tokens_from in_offsets (ts ++ rest) ≤ 1 + counted_tokens_from in_offsets rest
-component_counts ts d rest (ahead line n) = omega arith
-component_counts ts d rest (back minus line n) = omega arith
-
-component_peak : (ts : List Placed) (d : ℤ) (k : ℕ) (rest : List Placed) → IsComponent ts d → peak k (ts ++ rest) ≤ peak k rest
-component_peak ts d k rest (ahead line n) = omega (arith, peak_least k rest)
-component_peak ts d k rest (back minus line n) = omega (arith, peak_least k rest)
-
-components_count : (ts : List Placed) (ds : List ℤ) (rest : List Placed) → AreParted IsComponent ts ds → suc (counted_tokens_from in_offsets (ts ++ rest)) ≤ 2 * length ds + counted_tokens_from in_offsets rest
-components_count ts ds rest (last_item {ts = us} {a = d} item) = omega (arith, component_counts us d rest item)
-components_count ts ds rest (item_before {ts = us} {us = vs} {a = d} {others = es} line item more) =
-    rw (append_assoc us (symbol_on line Comma ∷ vs) rest) (omega (arith, component_counts us d (symbol_on line Comma ∷ (vs ++ rest)) item, components_count vs es rest more))
-
-components_peak : (ts : List Placed) (ds : List ℤ) (k : ℕ) (rest : List Placed) → AreParted IsComponent ts ds → peak k (ts ++ rest) ≤ peak k rest
-components_peak ts ds k rest (last_item {ts = us} {a = d} item) = component_peak us d k rest item
-components_peak ts ds k rest (item_before {ts = us} {us = vs} {a = d} {others = es} line item more) =
-    rw (append_assoc us (symbol_on line Comma ∷ vs) rest) (omega (arith, component_peak us d k (symbol_on line Comma ∷ (vs ++ rest)) item, components_peak vs es k rest more, peak_least k rest))
-
-costs_round_cell : (line opened closed : ℕ) (text : List ℕ) (ds : List ℤ) (inside : List Placed) → is_reserved text ≡ false → AreParted IsComponent inside ds → Costs (2 + 2 * length ds) 1 (name_on line text ∷ symbol_on opened OpenRound ∷ (inside ++ symbol_on closed CloseRound ∷ []))
-costs_round_cell line opened closed text ds inside e are = record {
-  counts = λ rest shut. rw (append_assoc inside (symbol_on closed CloseRound ∷ []) rest) (omega (arith, free_counts line text (symbol_on opened OpenRound ∷ (inside ++ symbol_on closed CloseRound ∷ rest)) e, components_count inside ds (symbol_on closed CloseRound ∷ rest) are));
-  opens = λ k rest. let less : suc k - 1 ≡ k = omega arith in let same : peak (suc k - 1) rest ≡ peak k rest = ap (λ (i : ℕ). peak i rest) less in rw (append_assoc inside (symbol_on closed CloseRound ∷ []) rest) (omega (arith, same, components_peak inside ds (suc k) (symbol_on closed CloseRound ∷ rest) are));
-}
-
-costs_cell : (line : ℕ) (text : List ℕ) (ts : List Placed) (ds : List ℤ) → is_reserved text ≡ false → AreOffsets ts ds → Costs (2 + 2 * length ds) 1 (name_on line text ∷ ts)
-costs_cell line text ts ds e are =
-    subst (λ (us : List Placed). Costs (2 + 2 * length ds) 1 (name_on line text ∷ us)) (sym are.is) (costs_round_cell line are.opened are.closed text ds are.inside e are.item)
-
--- indexes
-abbrev one_if_some : ℕ → ℕ
-one_if_some n = if n == 0 then 0 else 1
-
-indexes_count : (ts : List Placed) (ks : List ℕ) (rest : List Placed) → AreIndexes ts ks → counted_tokens_from outside (ts ++ rest) ≤ 3 * length ks + counted_tokens_from outside rest
-indexes_count ts ks rest no_index = omega arith
-indexes_count ts ks rest (index_before {ts = us} {indexes = js} opened line n closed more) = omega (arith, indexes_count us js rest more)
-
-named_count : (ts : List Placed) (ks : List ℕ) (rest : List Placed) → Closed rest → AreIndexes ts ks → counted_tokens_from behind_name (ts ++ rest) ≤ 3 * length ks + counted_tokens_from outside rest
-named_count ts ks rest closed no_index = omega arith
-named_count ts ks rest closed (index_before {ts = us} {indexes = js} opened line n shut more) = omega (arith, indexes_count us js rest more)
-
-indexes_peak : (ts : List Placed) (ks : List ℕ) (k : ℕ) (rest : List Placed) → AreIndexes ts ks → peak k (ts ++ rest) ≤ max (1 + k) (peak k rest)
-indexes_peak ts ks k rest no_index = omega arith
-indexes_peak ts ks k rest (index_before {ts = us} {indexes = js} opened line n closed more) =
-    let less : suc k - 1 ≡ k = omega arith in
-    let same : peak (suc k - 1) (us ++ rest) ≡ peak k (us ++ rest) = ap (λ (i : ℕ). peak i (us ++ rest)) less in
-    omega (arith, same, indexes_peak us js k rest more)
-
-indexes_open : (ts : List Placed) (ks : List ℕ) (k : ℕ) (rest : List Placed) → AreIndexes ts ks → peak k (ts ++ rest) ≤ max (one_if_some (length ks) + k) (peak k rest)
-indexes_open ts ks k rest no_index = omega arith
-indexes_open ts ks k rest (index_before {ts = us} {indexes = js} opened line n closed more) =
-    let one : one_if_some (suc (length js)) ≡ 1 = grind (arith, nat_tests) in
-    omega (arith, one, indexes_peak _ (n ∷ js) k rest (index_before opened line n closed more))
-
-costs_value : (line : ℕ) (text : List ℕ) (ts : List Placed) (ks : List ℕ) → is_reserved text ≡ false → AreIndexes ts ks → Costs (1 + 3 * length ks) (one_if_some (length ks)) (name_on line text ∷ ts)
-costs_value line text ts ks e are = record {
-  counts = λ rest closed. omega (arith, free_counts line text (ts ++ rest) e, named_count ts ks rest closed are);
-  opens = λ k rest. omega (arith, indexes_open ts ks k rest are, peak_least k rest);
-}
+use Rattle.std.proofs.lemmas.Bool.{leb-true}
+use Rattle.soda_parse.proofs.TokenCounts.{Closed, peak, peak_least, IsPassing, passes, passing_closed, reserved_counts, free_counts, one_if_some, comma_passes, cast_reserved}
+use Rattle.soda_parse.proofs.WrittenCosts.{Costs, costs_more, passing_peak, costs_joined, costs_round, costs_sign, costs_named, component_counts, component_peak, components_count, components_peak, costs_round_cell, costs_cell, indexes_count, named_count, indexes_peak, indexes_open, costs_value}
 
 -- operands and operators
-pair_costs : (b : Bool) (n m line : ℕ) (toks : List Token) → Costs n m (on line toks) → Costs (2 * (if b then 1 else 0) + n) ((if b then 1 else 0) + m) (on line (pair_tokens (if b then 1 else 0) toks))
+pair_costs : (b : Bool) (n m line : ℕ) (toks : List Token) → Costs n m (on line toks) →
+    Costs (2 * (if b then 1 else 0) + n) ((if b then 1 else 0) + m) (on line (pair_tokens (if b then 1 else 0) toks))
 pair_costs true n m line toks t =
-    subst (λ (ps : List Placed). Costs (2 * 1 + n) (1 + m) (symbol_on line OpenRound ∷ ps)) (sym (on_both line toks (Sign CloseRound ∷ []))) (costs_more (n + 2) (m + 1) (2 * 1 + n) (1 + m) _ (costs_round n m line line (on line toks) t) (omega arith) (omega arith))
+    subst (λ (ps : List Placed). Costs (2 * 1 + n) (1 + m) (symbol_on line OpenRound ∷ ps)) (sym (on_both line toks (Sign CloseRound ∷ [])))
+    (costs_more (n + 2) (m + 1) (2 * 1 + n) (1 + m) _ (costs_round n m line line (on line toks) t) (omega arith) (omega arith))
 pair_costs false n m line toks t =
-    subst (λ (us : List Token). Costs (2 * 0 + n) (0 + m) (on line us)) (sym (append-nil toks)) (costs_more n m (2 * 0 + n) (0 + m) (on line toks) t (omega arith) (omega arith))
+    subst (λ (us : List Token). Costs (2 * 0 + n) (0 + m) (on line us)) (sym (append-nil toks))
+    (costs_more n m (2 * 0 + n) (0 + m) (on line toks) t (omega arith) (omega arith))
 
-infix_costs : (line l r n m a b : ℕ) (s : Symbol) (ts us : List Token) → IsPassing s → Costs (2 * l + n) (l + m) (on line (pair_tokens l ts)) → Costs (2 * r + a) (r + b) (on line (pair_tokens r us)) → Costs (1 + (2 * l + n) + (2 * r + a)) (0 + max (l + m) (r + b)) (on line (pair_tokens l ts ++ (Sign s ∷ pair_tokens r us)))
+infix_costs : (line l r n m a b : ℕ) (s : Symbol) (ts us : List Token) → IsPassing s → Costs (2 * l + n) (l + m) (on line (pair_tokens l ts)) →
+    Costs (2 * r + a) (r + b) (on line (pair_tokens r us)) →
+    Costs (1 + (2 * l + n) + (2 * r + a)) (0 + max (l + m) (r + b)) (on line (pair_tokens l ts ++ (Sign s ∷ pair_tokens r us)))
 infix_costs line l r n m a b s ts us pass t u =
     subst (Costs (1 + (2 * l + n) + (2 * r + a)) (0 + max (l + m) (r + b))) (sym (on_both line (pair_tokens l ts) (Sign s ∷ pair_tokens r us)))
-    (costs_more (2 * l + n + 1 + (2 * r + a)) (max (l + m) (r + b)) _ _ _ (costs_joined (2 * l + n) (l + m) (2 * r + a) (r + b) line s _ _ pass t u) (omega arith) (omega arith))
+    (costs_more (2 * l + n + 1 + (2 * r + a)) (max (l + m) (r + b)) _ _ _ (costs_joined (2 * l + n) (l + m) (2 * r + a) (r + b) line s _ _ pass t u)
+    (omega arith) (omega arith))
 
 last_costs : (n m line : ℕ) (toks : List Token) → Costs n m (on line toks) → Costs n m (on line (toks ++ []))
 last_costs n m line toks t = subst (λ (us : List Token). Costs n m (on line us)) (sym (append-nil toks)) t
 
-comma_passes : IsPassing Comma
-comma_passes = passes Comma (λ k. refl) refl
-
-comma_costs : (n m a b line : ℕ) (ts us : List Token) → Costs n m (on line ts) → Costs a b (on line us) → Costs (n + 1 + a) (max m b) (on line (ts ++ (Sign Comma ∷ us)))
+comma_costs : (n m a b line : ℕ) (ts us : List Token) → Costs n m (on line ts) → Costs a b (on line us) →
+    Costs (n + 1 + a) (max m b) (on line (ts ++ (Sign Comma ∷ us)))
 comma_costs n m a b line ts us t u =
     subst (Costs (n + 1 + a) (max m b)) (sym (on_both line ts (Sign Comma ∷ us))) (costs_joined n m a b line Comma (on line ts) (on line us) comma_passes t u)
 
-call_costs : (n m line : ℕ) (w : List ℕ) (tss : List (List Token)) → is_reserved w ≡ true → Costs n m (on line (parted_tokens tss)) → Costs (1 + (n + 2)) (m + 1) (on line (call_tokens w tss))
+call_costs : (n m line : ℕ) (w : List ℕ) (tss : List (List Token)) → is_reserved w ≡ true → Costs n m (on line (parted_tokens tss)) →
+    Costs (1 + (n + 2)) (m + 1) (on line (call_tokens w tss))
 call_costs n m line w tss e t =
-    costs_named (n + 2) (m + 1) line w (on line (listed_tokens tss)) e (subst (λ (ps : List Placed). Costs (n + 2) (m + 1) (symbol_on line OpenRound ∷ ps)) (sym (on_both line (parted_tokens tss) (Sign CloseRound ∷ []))) (costs_round n m line line (on line (parted_tokens tss)) t))
+    costs_named (n + 2) (m + 1) line w (on line (listed_tokens tss)) e (subst (λ (ps : List Placed). Costs (n + 2) (m + 1) (symbol_on line OpenRound ∷ ps))
+    (sym (on_both line (parted_tokens tss) (Sign CloseRound ∷ []))) (costs_round n m line line (on line (parted_tokens tss)) t))
 
 -- a formula costs what is counted of it
 abbrev CostsFormula : PlainProgram → ℕ → Formula → Type 0
 CostsFormula p line f = Costs (token_count p f) (most_open p f) (on line (formula_tokens p f))
 
-operand_costs : (p : PlainProgram) (line least : ℕ) (f : Formula) → CostsFormula p line f → Costs (2 * pairs_round least f + token_count p f) (pairs_round least f + most_open p f) (on line (pair_tokens (pairs_round least f) (formula_tokens p f)))
+operand_costs : (p : PlainProgram) (line least : ℕ) (f : Formula) → CostsFormula p line f →
+    Costs (2 * pairs_round least f + token_count p f) (pairs_round least f + most_open p f) (on line (pair_tokens (pairs_round least f) (formula_tokens p f)))
 operand_costs p line least f t = pair_costs (nat_lt _ least) (token_count p f) (most_open p f) line (formula_tokens p f) t
 
-between_costs : (p : PlainProgram) (line k : ℕ) (s : Symbol) (f g : Formula) → ((i : ℕ) → open_behind i (Sign s) ≡ i) → place_behind behind_name (Sign s) ≡ outside → CostsFormula p line f → CostsFormula p line g → Costs (1 + (2 * pairs_round k f + token_count p f) + (2 * pairs_round (suc k) g + token_count p g)) (0 + max (pairs_round k f + most_open p f) (pairs_round (suc k) g + most_open p g)) (on line (pair_tokens (pairs_round k f) (formula_tokens p f) ++ (Sign s ∷ pair_tokens (pairs_round (suc k) g) (formula_tokens p g))))
+between_costs : (p : PlainProgram) (line k : ℕ) (s : Symbol) (f g : Formula) → ((i : ℕ) → open_behind i (Sign s) ≡ i) →
+    place_behind behind_name (Sign s) ≡ outside → CostsFormula p line f → CostsFormula p line g →
+    Costs (1 + (2 * pairs_round k f + token_count p f) + (2 * pairs_round (suc k) g + token_count p g))
+    (0 + max (pairs_round k f + most_open p f) (pairs_round (suc k) g + most_open p g))
+    (on line (pair_tokens (pairs_round k f) (formula_tokens p f) ++ (Sign s ∷ pair_tokens (pairs_round (suc k) g) (formula_tokens p g))))
 between_costs p line k s f g h e t u =
-    infix_costs line (pairs_round k f) (pairs_round (suc k) g) (token_count p f) (most_open p f) (token_count p g) (most_open p g) s (formula_tokens p f) (formula_tokens p g) (passes s h e) (operand_costs p line k f t) (operand_costs p line (suc k) g u)
+    infix_costs line (pairs_round k f) (pairs_round (suc k) g) (token_count p f) (most_open p f) (token_count p g) (most_open p g) s (formula_tokens p f)
+    (formula_tokens p g) (passes s h e) (operand_costs p line k f t) (operand_costs p line (suc k) g u)
 
-two_costs : (p : PlainProgram) (line : ℕ) (w : List ℕ) (l r : ℕ) (f g : Formula) → is_reserved w ≡ true → CostsFormula p line f → CostsFormula p line g → Costs (4 + (2 * l + token_count p f) + (2 * r + token_count p g)) (1 + max (l + most_open p f) (r + most_open p g)) (on line (call_tokens w (formula_tokens p f ∷ formula_tokens p g ∷ [])))
+two_costs : (p : PlainProgram) (line : ℕ) (w : List ℕ) (l r : ℕ) (f g : Formula) → is_reserved w ≡ true → CostsFormula p line f → CostsFormula p line g →
+    Costs (4 + (2 * l + token_count p f) + (2 * r + token_count p g)) (1 + max (l + most_open p f) (r + most_open p g))
+    (on line (call_tokens w (formula_tokens p f ∷ formula_tokens p g ∷ [])))
 two_costs p line w l r f g e t u =
-    let inside = comma_costs (token_count p f) (most_open p f) (token_count p g) (most_open p g) line (formula_tokens p f) (formula_tokens p g ++ []) t (last_costs (token_count p g) (most_open p g) line (formula_tokens p g) u) in
-    costs_more _ _ _ _ _ (call_costs (token_count p f + 1 + token_count p g) (max (most_open p f) (most_open p g)) line w (formula_tokens p f ∷ formula_tokens p g ∷ []) e inside) (omega arith) (omega arith)
+    let inside =
+    comma_costs (token_count p f) (most_open p f) (token_count p g) (most_open p g) line (formula_tokens p f) (formula_tokens p g ++ []) t
+    (last_costs (token_count p g) (most_open p g) line (formula_tokens p g) u) in
+    costs_more _ _ _ _ _ (call_costs (token_count p f + 1 + token_count p g) (max (most_open p f) (most_open p g)) line w
+    (formula_tokens p f ∷ formula_tokens p g ∷ []) e inside) (omega arith) (omega arith)
 
 binary_costs : (p : PlainProgram) (line : ℕ) (op : BinOp) (f g : Formula) → CostsFormula p line f → CostsFormula p line g → CostsFormula p line (binary op f g)
 binary_costs p line LogOr f g t u = between_costs p line 0 BarBar f g (λ k. refl) refl t u
@@ -220,11 +109,16 @@ binary_costs p line Rem f g t u = between_costs p line 8 Percent f g (λ k. refl
 binary_costs p line Min f g t u = two_costs p line (codes "min") (left_pairs Min f) (right_pairs Min g) f g refl t u
 binary_costs p line Max f g t u = two_costs p line (codes "max") (left_pairs Max f) (right_pairs Max g) f g refl t u
 
-prefix_costs : (p : PlainProgram) (line : ℕ) (s : Symbol) (f : Formula) → ((i : ℕ) → open_behind i (Sign s) ≡ i) → place_behind behind_name (Sign s) ≡ outside → CostsFormula p line f → Costs (1 + 2 * pairs_round 9 f + token_count p f) (0 + pairs_round 9 f + most_open p f) (on line (Sign s ∷ pair_tokens (pairs_round 9 f) (formula_tokens p f)))
+prefix_costs : (p : PlainProgram) (line : ℕ) (s : Symbol) (f : Formula) → ((i : ℕ) → open_behind i (Sign s) ≡ i) →
+    place_behind behind_name (Sign s) ≡ outside → CostsFormula p line f →
+    Costs (1 + 2 * pairs_round 9 f + token_count p f) (0 + pairs_round 9 f + most_open p f)
+    (on line (Sign s ∷ pair_tokens (pairs_round 9 f) (formula_tokens p f)))
 prefix_costs p line s f h e t =
-    costs_more _ _ _ _ _ (costs_sign (2 * pairs_round 9 f + token_count p f) (pairs_round 9 f + most_open p f) line s (on line (pair_tokens (pairs_round 9 f) (formula_tokens p f))) (passes s h e) (operand_costs p line 9 f t)) (omega arith) (omega arith)
+    costs_more _ _ _ _ _ (costs_sign (2 * pairs_round 9 f + token_count p f) (pairs_round 9 f + most_open p f) line s
+    (on line (pair_tokens (pairs_round 9 f) (formula_tokens p f))) (passes s h e) (operand_costs p line 9 f t)) (omega arith) (omega arith)
 
-one_costs : (p : PlainProgram) (line : ℕ) (w : List ℕ) (f : Formula) → is_reserved w ≡ true → CostsFormula p line f → Costs (1 + (token_count p f + 2)) (most_open p f + 1) (on line (call_tokens w (formula_tokens p f ∷ [])))
+one_costs : (p : PlainProgram) (line : ℕ) (w : List ℕ) (f : Formula) → is_reserved w ≡ true → CostsFormula p line f →
+    Costs (1 + (token_count p f + 2)) (most_open p f + 1) (on line (call_tokens w (formula_tokens p f ∷ [])))
 one_costs p line w f e t =
     call_costs (token_count p f) (most_open p f) line w (formula_tokens p f ∷ []) e (last_costs (token_count p f) (most_open p f) line (formula_tokens p f) t)
 
@@ -236,15 +130,6 @@ unary_costs p line Not f t = prefix_costs p line Bang f (λ k. refl) refl t
 unary_costs p line Abs f t =
     costs_more _ _ (token_count p (unary Abs f)) (most_open p (unary Abs f)) _ (one_costs p line (codes "abs") f refl t) (omega arith) (omega arith)
 
-few_by : (z : Bool) (i j n : ℕ) → 2 ≤ n → length (if z then [] else i ∷ j ∷ []) ≤ n
-few_by true i j n h = omega arith
-few_by false i j n h = omega arith
-
-indexes_few : (ns : List ℕ) (i : ℕ) → length (indexes ns i) ≤ length ns
-indexes_few [] i = omega arith
-indexes_few (n ∷ []) i = omega arith
-indexes_few (n ∷ m ∷ ns) i = few_by (m == 0) _ _ (length (n ∷ m ∷ ns)) (omega arith)
-
 one_more : (a b : ℕ) → a ≤ b → one_if_some a ≤ one_if_some b
 one_more a b h = grind (arith, nat_tests)
 
@@ -254,23 +139,25 @@ count_by r = elim r as (λ (x : Option PlainParam). ℕ) [ None ↦ 0 | Some q �
 abbrev tokens_by : ℕ → Option PlainParam → List Token
 tokens_by i r = elim r [ None ↦ [] | Some q ↦ Name q.name ∷ index_tokens (indexes q.sizes i) ]
 
-value_costs : (p : PlainProgram) (line k i : ℕ) (r : Option PlainParam) → IsFree p → slice_get p.params k ≡ r → (elim r as (λ v. Bool) [ None ↦ false | Some q ↦ nat_lt i (size q.sizes) ]) ≡ true → Costs (1 + 3 * count_by r) (one_if_some (count_by r)) (on line (tokens_by i r))
+value_costs : (p : PlainProgram) (line k i : ℕ) (r : Option PlainParam) → IsFree p → slice_get p.params k ≡ r →
+    (elim r as (λ v. Bool) [ None ↦ false | Some q ↦ nat_lt i (size q.sizes) ]) ≡ true →
+    Costs (1 + 3 * count_by r) (one_if_some (count_by r)) (on line (tokens_by i r))
 value_costs p line k i None h e u = cc
 value_costs p line k i (Some q) h e u =
-    let few = indexes_few q.sizes i in
-    costs_more _ _ _ _ _ (costs_value line q.name (on line (index_tokens (indexes q.sizes i))) (indexes q.sizes i) (h.params k q e) (numbers line (indexes q.sizes i))) (omega arith) (one_more (length (indexes q.sizes i)) (length q.sizes) few)
+    let few = few_indexes q.sizes i in
+    costs_more _ _ _ _ _ (costs_value line q.name (on line (index_tokens (indexes q.sizes i))) (indexes q.sizes i) (h.params k q e)
+    (numbers line (indexes q.sizes i))) (omega arith) (one_more (length (indexes q.sizes i)) (length q.sizes) few)
 
 number_costs : (line n : ℕ) → Costs 1 0 (number_on line n ∷ [])
 number_costs line n = record { counts = λ rest closed. omega arith; opens = λ k rest. omega (arith, peak_least k rest) }
 
-cast_reserved : (text : List ℕ) → is_cast_word text ≡ true → is_reserved text ≡ true
-cast_reserved text e = rw e refl
-
-formula_costs : (p : PlainProgram) (line : ℕ) (f : Formula) → IsFree p → each_use (is_good_cell p) (is_good_place p) f ≡ true → IsSized f → CostsFormula p line f
+formula_costs : (p : PlainProgram) (line : ℕ) (f : Formula) → IsFree p → each_use (is_good_cell p) (is_good_place p) f ≡ true → IsSized f →
+    CostsFormula p line f
 formula_costs p line (number n) h u s = number_costs line n
 formula_costs p line (read k ds) h u s =
     let there = cell_there p k ds u in
-    costs_cell line (tensor_name p k) (on line (listed_tokens (map component_tokens ds))) ds (h.tensors k there.within) (offsets line ds (length p.extents) there.many)
+    costs_cell line (tensor_name p k) (on line (listed_tokens (map component_tokens ds))) ds (h.tensors k there.within)
+    (offsets line ds (length p.extents) there.many)
 formula_costs p line (value_of k i) h u s = value_costs p line k i (slice_get p.params k) h refl u
 formula_costs p line (unary op a) h u s = unary_costs p line op a (formula_costs p line a h u s)
 formula_costs p line (binary op a b) h u s =
@@ -280,11 +167,17 @@ formula_costs p line (choice c a b) h u s =
     let e : Formula → Bool = each_use (is_good_cell p) (is_good_place p) in
     let both = both_of (e c && e a) (e b) u in
     let front = both_of (e c) (e a) both.0 in
-    let rest = comma_costs (token_count p a) (most_open p a) (token_count p b) (most_open p b) line (formula_tokens p a) (formula_tokens p b ++ []) (formula_costs p line a h front.1 s.1) (last_costs (token_count p b) (most_open p b) line (formula_tokens p b) (formula_costs p line b h both.1 s.2)) in
-    let inside = comma_costs (token_count p c) (most_open p c) (token_count p a + 1 + token_count p b) (max (most_open p a) (most_open p b)) line (formula_tokens p c) (formula_tokens p a ++ (Sign Comma ∷ (formula_tokens p b ++ []))) (formula_costs p line c h front.0 s.0) rest in
-    costs_more _ _ _ _ _ (call_costs _ _ line (codes "select") (formula_tokens p c ∷ formula_tokens p a ∷ formula_tokens p b ∷ []) refl inside) (omega arith) (omega arith)
+    let rest =
+    comma_costs (token_count p a) (most_open p a) (token_count p b) (most_open p b) line (formula_tokens p a) (formula_tokens p b ++ [])
+    (formula_costs p line a h front.1 s.1) (last_costs (token_count p b) (most_open p b) line (formula_tokens p b) (formula_costs p line b h both.1 s.2)) in
+    let inside =
+    comma_costs (token_count p c) (most_open p c) (token_count p a + 1 + token_count p b) (max (most_open p a) (most_open p b)) line (formula_tokens p c)
+    (formula_tokens p a ++ (Sign Comma ∷ (formula_tokens p b ++ []))) (formula_costs p line c h front.0 s.0) rest in
+    costs_more _ _ _ _ _ (call_costs _ _ line (codes "select") (formula_tokens p c ∷ formula_tokens p a ∷ formula_tokens p b ∷ []) refl inside)
+    (omega arith) (omega arith)
 formula_costs p line (cast t a) h u s =
-    costs_more _ _ _ _ _ (one_costs p line (type_text t) a (cast_reserved (type_text t) (cast_word t s.0)) (formula_costs p line a h u s.1)) (omega arith) (omega arith)
+    costs_more _ _ _ _ _ (one_costs p line (type_text t) a (cast_reserved (type_text t) (cast_word t s.0)) (formula_costs p line a h u s.1)) (omega arith)
+    (omega arith)
 
 -- fronts cost no more
 front_counts : (place : Place) (ts rest : List Placed) → counted_tokens_from place ts ≤ counted_tokens_from place (ts ++ rest)
@@ -295,19 +188,18 @@ front_opens : (k : ℕ) (ts rest : List Placed) → open_brackets_from k ts ≤ 
 front_opens k [] rest = peak_least k rest
 front_opens k (t ∷ ts) rest = omega (arith, front_opens (open_behind k t.token) ts rest)
 
-true_le : (a b : ℕ) → nat_le a b ≡ true → a ≤ b
-true_le a b h = grind (arith, nat_tests)
-
 not_large : (n m : ℕ) (ts : List Placed) → Costs n m ts → n ≤ 1500 → m ≤ 64 → IsSmallFormula ts
 not_large n m ts t few low p y e (inl over) =
     let all : peak 0 (p ++ y) ≤ 64 = subst (λ (us : List Placed). peak 0 us ≤ 64) (append-nil ts ∙ e) (omega (arith, t.opens 0 [])) in
     omega (arith, front_opens 0 p y)
 not_large n m ts t few low p y e (inr over) =
-    let all : counted_tokens_from outside (p ++ y) ≤ 1500 = subst (λ (us : List Placed). counted_tokens_from outside us ≤ 1500) (append-nil ts ∙ e) (omega (arith, t.counts [] refl)) in
+    let all : counted_tokens_from outside (p ++ y) ≤ 1500 = subst (λ (us : List Placed). counted_tokens_from outside us ≤ 1500) (append-nil ts ∙
+    e) (omega (arith, t.counts [] refl)) in
     omega (arith, front_counts outside p y)
 
 -- a formula that is small as counted is small as written
-pub small_tokens : (p : PlainProgram) (line : ℕ) (f : Formula) → IsFree p → each_use (is_good_cell p) (is_good_place p) f ≡ true → IsSized f → (nat_le (token_count p f) 1500 && nat_le (most_open p f) 64) ≡ true → IsSmallFormula (on line (formula_tokens p f))
+pub small_tokens : (p : PlainProgram) (line : ℕ) (f : Formula) → IsFree p → each_use (is_good_cell p) (is_good_place p) f ≡ true → IsSized f →
+    (nat_le (token_count p f) 1500 && nat_le (most_open p f) 64) ≡ true → IsSmallFormula (on line (formula_tokens p f))
 small_tokens p line f h u s small =
     let both = both_of (nat_le (token_count p f) 1500) (nat_le (most_open p f) 64) small in
-    not_large (token_count p f) (most_open p f) (on line (formula_tokens p f)) (formula_costs p line f h u s) (true_le _ _ both.0) (true_le _ _ both.1)
+    not_large (token_count p f) (most_open p f) (on line (formula_tokens p f)) (formula_costs p line f h u s) (leb-true _ _ both.0) (leb-true _ _ both.1)

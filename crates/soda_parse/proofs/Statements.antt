@@ -84,18 +84,23 @@ statements_of p =
 -- locals and outputs
 pub data AreDefined : List PlainTensor → Type 0 where
   none_defined : AreDefined []
-  a_local : {ts : List PlainTensor} (name : List ℕ) (ty : IntType) (f : Formula) → AreDefined ts → AreDefined (record { name = name; ty = ty; role = Local; formula = Some f } ∷ ts)
-  an_output : {ts : List PlainTensor} (name : List ℕ) (ty : IntType) (f : Formula) → AreDefined ts → AreDefined (record { name = name; ty = ty; role = Output; formula = Some f } ∷ ts)
+  a_local : {ts : List PlainTensor} (name : List ℕ) (ty : IntType) (f : Formula) → AreDefined ts →
+      AreDefined (record { name = name; ty = ty; role = Local; formula = Some f } ∷ ts)
+  an_output : {ts : List PlainTensor} (name : List ℕ) (ty : IntType) (f : Formula) → AreDefined ts →
+      AreDefined (record { name = name; ty = ty; role = Output; formula = Some f } ∷ ts)
 
 -- inputs, and behind them locals and outputs
 pub data AreOrdered : List PlainTensor → Type 0 where
   no_input : {ts : List PlainTensor} → AreDefined ts → AreOrdered ts
-  an_input : {ts : List PlainTensor} (name : List ℕ) (ty : IntType) → AreOrdered ts → AreOrdered (record { name = name; ty = ty; role = Input; formula = None } ∷ ts)
+  an_input : {ts : List PlainTensor} (name : List ℕ) (ty : IntType) → AreOrdered ts →
+      AreOrdered (record { name = name; ty = ty; role = Input; formula = None } ∷ ts)
 
 abbrev no_inputs : List PlainTensor → Bool
 no_inputs ts = list_all (λ u. not (is_input_role u.role)) ts
 
-one_defined : (n : List ℕ) (ty : IntType) (r : Role) (o : Option Formula) (ts : List PlainTensor) → not (is_input_role r) ≡ true → has_formula_if_no_input (record { name = n; ty = ty; role = r; formula = o }) ≡ true → AreDefined ts → AreDefined (record { name = n; ty = ty; role = r; formula = o } ∷ ts)
+one_defined : (n : List ℕ) (ty : IntType) (r : Role) (o : Option Formula) (ts : List PlainTensor) → not (is_input_role r) ≡ true →
+    has_formula_if_no_input (record { name = n; ty = ty; role = r; formula = o }) ≡ true → AreDefined ts →
+    AreDefined (record { name = n; ty = ty; role = r; formula = o } ∷ ts)
 one_defined n ty Input o ts h k more = cc
 one_defined n ty Local None ts h k more = cc
 one_defined n ty Local (Some f) ts h k more = a_local n ty f more
@@ -109,7 +114,10 @@ defined (t ∷ ts) h k =
     let b = both_of (has_formula_if_no_input t) (list_all has_formula_if_no_input ts) k in
     one_defined t.name t.ty t.role t.formula ts a.0 b.0 (defined ts a.1 b.1)
 
-one_ordered : (n : List ℕ) (ty : IntType) (r : Role) (o : Option Formula) (ts : List PlainTensor) → has_inputs_first (record { name = n; ty = ty; role = r; formula = o } ∷ ts) ≡ true → has_formula_if_no_input (record { name = n; ty = ty; role = r; formula = o }) ≡ true → (has_inputs_first ts ≡ true → AreOrdered ts) → (no_inputs ts ≡ true → AreDefined ts) → AreOrdered (record { name = n; ty = ty; role = r; formula = o } ∷ ts)
+one_ordered : (n : List ℕ) (ty : IntType) (r : Role) (o : Option Formula) (ts : List PlainTensor) →
+    has_inputs_first (record { name = n; ty = ty; role = r; formula = o } ∷ ts) ≡ true →
+    has_formula_if_no_input (record { name = n; ty = ty; role = r; formula = o }) ≡ true → (has_inputs_first ts ≡ true → AreOrdered ts) →
+    (no_inputs ts ≡ true → AreDefined ts) → AreOrdered (record { name = n; ty = ty; role = r; formula = o } ∷ ts)
 one_ordered n ty Input None ts h k more last = an_input n ty (more h)
 one_ordered n ty Input (Some f) ts h k more last = cc
 one_ordered n ty Local o ts h k more last = no_input (one_defined n ty Local o ts refl_true k (last h))

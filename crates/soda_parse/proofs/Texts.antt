@@ -23,7 +23,8 @@ defined_texts o (local f ∷ ss) = ap (λ (ws : List (List ℕ)). f.name.text �
 defined_texts o (output f ∷ ss) = ap (λ (ws : List (List ℕ)). f.name.text ∷ ws) (defined_texts o ss)
 
 -- the names of the tensors
-pub tensor_texts : (o : Outline) (is : List InputLine) (ss : List PlainStatement) → map (λ t. t.name) (map input_of is ++ flat_map (tensors_in o) ss) ≡ map (λ i. i.name.text) is ++ map (λ d. d.name.text) (outline_of ss).defined
+pub tensor_texts : (o : Outline) (is : List InputLine) (ss : List PlainStatement) →
+    map (λ t. t.name) (map input_of is ++ flat_map (tensors_in o) ss) ≡ map (λ i. i.name.text) is ++ map (λ d. d.name.text) (outline_of ss).defined
 tensor_texts o [] ss = defined_texts o ss
 tensor_texts o (i ∷ is) ss = ap (λ (ws : List (List ℕ)). i.name.text ∷ ws) (tensor_texts o is ss)
 

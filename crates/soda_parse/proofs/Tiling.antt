@@ -15,13 +15,15 @@ use Rattle.soda_formula.specs.declared.statement.InputLine.{InputLine}
 -- nothing is found at the front of a list, nor behind it
 pub none_here : {A : Type 0} (test : A → Bool) (x : A) (xs : List A) → find test (x ∷ xs) ≡ None → (test x ≡ false) × (find test xs ≡ None)
 none_here {A} test x xs e =
-    elim (test x) as (λ t. (t ≡ test x) → cond t (Some x) (find test xs) ≡ None → (t ≡ false) × (find test xs ≡ None)) [ true ↦ λ h f. cc | false ↦ λ h f. (refl, f) ] refl e
+    elim (test x) as (λ t. (t ≡ test x) → cond t (Some x) (find test xs) ≡ None →
+    (t ≡ false) × (find test xs ≡ None)) [ true ↦ λ h f. cc | false ↦ λ h f. (refl, f) ] refl e
 
 pub false_not : (b : Bool) → not b ≡ false → b ≡ true
 false_not true e = refl
 false_not false e = cc
 
-pub tile_here : (first tile : List Extent) (i : InputLine) (t u : Option (List Extent)) → i.tile ≡ t → (u ≡ Some tile → is_tile tile ≡ true) → or_else t u ≡ Some tile → has_wrong_tile first i ≡ false → is_tile tile ≡ true
+pub tile_here : (first tile : List Extent) (i : InputLine) (t u : Option (List Extent)) → i.tile ≡ t → (u ≡ Some tile → is_tile tile ≡ true) →
+    or_else t u ≡ Some tile → has_wrong_tile first i ≡ false → is_tile tile ≡ true
 tile_here first tile i None u is more e f = more e
 tile_here first tile i (Some v) u is more e f =
     let wrong : not (is_tile v && is_same_tile v first) ≡ false = rw is at f in
@@ -29,7 +31,8 @@ tile_here first tile i (Some v) u is more e f =
     let same : v ≡ tile = cc in
     ap is_tile (sym same) ∙ good
 
-good_tile : (first : List Extent) (inputs : List InputLine) (tile : List Extent) → first_by (λ i. i.tile) inputs ≡ Some tile → find (has_wrong_tile first) inputs ≡ None → is_tile tile ≡ true
+good_tile : (first : List Extent) (inputs : List InputLine) (tile : List Extent) → first_by (λ i. i.tile) inputs ≡ Some tile →
+    find (has_wrong_tile first) inputs ≡ None → is_tile tile ≡ true
 good_tile first [] tile e f = cc
 good_tile first (i ∷ is) tile e f =
     let here = none_here (has_wrong_tile first) i is f in

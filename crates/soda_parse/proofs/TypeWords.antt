@@ -11,9 +11,7 @@ use Rattle.soda_words.proofs.CallerLemmas.{number_is, own}
 use Rattle.soda_words.specs.Names.{behind}
 use Rattle.soda_words.specs.Tokens.{or_else, value_behind}
 use Rattle.soda_parse.proofs.Back.{IsTyped}
-
-le_true : (a b : ℕ) → a ≤ b → nat_le a b ≡ true
-le_true a b h = grind (arith, nat_tests)
+use Rattle.soda_parse.proofs.Truths.{le_true}
 
 width_back : (least n : ℕ) → least ≤ n → n ≤ 64 → width_of least (decimal n) ≡ Some n
 width_back least n h k =
@@ -26,7 +24,11 @@ text_by s n = (if s then codes "int" else codes "uint") ++ decimal n
 
 type_back : (s : Bool) (n : ℕ) → 1 ≤ n → (s ≡ true → 2 ≤ n) → n ≤ 64 → type_of (text_by s n) ≡ Some (record { signed = s; bits = n })
 type_back true n some two most =
-    ap (λ (w : Option ℕ). or_else (option_map (λ m. record { signed = true; bits = m }) w) (type_behind false 1 (behind (codes "uint") (text_by true n)))) (width_back 2 n (two refl) most)
+    ap (λ (w : Option ℕ). or_else (option_map (λ m. record {
+      signed = true;
+      bits =
+          m;
+    }) w) (type_behind false 1 (behind (codes "uint") (text_by true n)))) (width_back 2 n (two refl) most)
 type_back false n some two most =
     ap (λ (w : Option ℕ). option_map (λ m. record { signed = false; bits = m }) w) (width_back 1 n some most)
 

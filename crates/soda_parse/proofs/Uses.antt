@@ -24,6 +24,8 @@ use Rattle.soda_parse.proofs.SameTypes.{both_of}
 use Rattle.soda_parse.proofs.Tiling.{none_here, false_not}
 use Rattle.soda_words.specs.Tokens.{or_else}
 use Rattle.soda_words.specs.declared.token.Word.{Word}
+use Rattle.std.proofs.Math.Bool.{or-true}
+use Rattle.soda_parse.proofs.Offsets.{shifted_length}
 
 -- the cells of a formula behind a left side are fine
 pub record FineCells (o : Outline) (dims : ℕ) (left : List ℤ) (sites : List Site) : Type 0 where
@@ -52,7 +54,8 @@ Keeps o left xs = (ys : List Site) → far_from o left (xs ++ ys) ≡ or_else (f
 
 keeps_both : (o : Outline) (left : List ℤ) (xs ys : List Site) → Keeps o left xs → Keeps o left ys → Keeps o left (xs ++ ys)
 keeps_both o left xs ys h k zs =
-    rw (append_assoc xs ys zs) (h (ys ++ zs) ∙ (ap (λ (f : Option ℕ). or_else (far_from o left xs) f) (k zs) ∙ (or_assoc (far_from o left xs) (far_from o left ys) (far_from o left zs) ∙ ap (λ (f : Option ℕ). or_else f (far_from o left zs)) (sym (h ys)))))
+    rw (append_assoc xs ys zs) (h (ys ++ zs) ∙ (ap (λ (f : Option ℕ). or_else (far_from o left xs) f) (k zs) ∙
+    (or_assoc (far_from o left xs) (far_from o left ys) (far_from o left zs) ∙ ap (λ (f : Option ℕ). or_else f (far_from o left zs)) (sym (h ys)))))
 
 pub far_uses : (o : Outline) (left : List ℤ) (t : Term) → Keeps o left (uses_in t)
 far_uses o left (literal n) ys = refl
@@ -62,10 +65,12 @@ far_uses o left (value p is) ys = refl
 far_uses o left (unary op a) ys = far_uses o left a ys
 far_uses o left (binary op a b) ys = keeps_both o left (uses_in a) (uses_in b) (far_uses o left a) (far_uses o left b) ys
 far_uses o left (choice c a b) ys =
-    keeps_both o left (uses_in c) (uses_in a ++ uses_in b) (far_uses o left c) (keeps_both o left (uses_in a) (uses_in b) (far_uses o left a) (far_uses o left b)) ys
+    keeps_both o left (uses_in c) (uses_in a ++ uses_in b) (far_uses o left c) (keeps_both o left (uses_in a) (uses_in b) (far_uses o left a)
+    (far_uses o left b)) ys
 far_uses o left (cast t a) ys = far_uses o left a ys
 
-pub fine_first : (o : Outline) (dims : ℕ) (left : List ℤ) (a : Term) (ys : List Site) → FineCells o dims left (uses_in a ++ ys) → FineCells o dims left (uses_in a)
+pub fine_first : (o : Outline) (dims : ℕ) (left : List ℤ) (a : Term) (ys : List Site) → FineCells o dims left (uses_in a ++ ys) →
+    FineCells o dims left (uses_in a)
 fine_first o dims left a ys f = record {
   counted = (none_in_both (has_wrong_dims o dims) (uses_in a) ys f.counted).0;
   near = none_first (far_from o left (uses_in a)) (far_from o left ys) (sym (far_uses o left a ys) ∙ f.near);
@@ -88,17 +93,13 @@ no_cell test None q is = refl
 no_cell test (Some k) None is = refl
 no_cell test (Some k) (Some q) is = refl
 
-or_true : (b : Bool) → (b || true) ≡ true
-or_true true = refl
-or_true false = refl
-
 none_there : {A : Type 0} (test : A → Bool) (k : ℕ) → position test [] ≡ Some k → ⊥
 none_there test k e = cc
 
 any_at : {A : Type 0} (test : A → Bool) (xs : List A) (k : ℕ) (d : A) → k < length xs → test (get_or xs k d) ≡ true → list_any test xs ≡ true
 any_at test [] k d lt e = absurd (omega arith)
 any_at test (x ∷ xs) zero d lt e = rw e refl
-any_at test (x ∷ xs) (suc k) d lt e = rw (any_at test xs k d (omega arith) e) (or_true (test x))
+any_at test (x ∷ xs) (suc k) d lt e = rw (any_at test xs k d (omega arith) e) (or-true (test x))
 
 -- a name at a place of a list is one of the list
 found_any : {A : Type 0} (test : A → Bool) (xs : List A) (k : ℕ) → position test xs ≡ Some k → (k < length xs) × (list_any test xs ≡ true)
@@ -107,7 +108,9 @@ found_any test (x ∷ xs) k e =
     let h = position-Some test (x ∷ xs) k x e in
     (h.0, any_at test (x ∷ xs) k x h.0 h.1)
 
-numbered : (o : Outline) (w : Word) (k : ℕ) (a b : Option ℕ) → position (λ i. is_same w i.name) o.inputs ≡ a → position (λ d. is_same w d.name) o.defined ≡ b → or_else a (option_map (λ n. length o.inputs + n) b) ≡ Some k → (k < length o.inputs + length o.defined) × (is_tensor o w ≡ true)
+numbered : (o : Outline) (w : Word) (k : ℕ) (a b : Option ℕ) → position (λ i. is_same w i.name) o.inputs ≡ a →
+    position (λ d. is_same w d.name) o.defined ≡ b → or_else a (option_map (λ n. length o.inputs + n) b) ≡ Some k →
+    (k < length o.inputs + length o.defined) × (is_tensor o w ≡ true)
 numbered o w k (Some i) b e f is =
     let h = found_any (λ i. is_same w i.name) o.inputs i e in
     let same : i ≡ k = cc in
@@ -115,7 +118,7 @@ numbered o w k (Some i) b e f is =
 numbered o w k None (Some n) e f is =
     let h = found_any (λ d. is_same w d.name) o.defined n f in
     let same : length o.inputs + n ≡ k = cc in
-    (omega (arith, h.0, same), rw h.1 (or_true (list_any (λ i. is_same w i.name) o.inputs)))
+    (omega (arith, h.0, same), rw h.1 (or-true (list_any (λ i. is_same w i.name) o.inputs)))
 numbered o w k None None e f is = cc
 
 -- a number of a tensor is below their number, and the name is a tensor's
@@ -130,35 +133,36 @@ near_all (d ∷ ds) e =
     let small : nat_le (unsigned_abs d) 32768 ≡ true = grind (arith, nat_tests, here.0) in
     rw (small, near_all ds here.1) refl
 
-shifted_length : (o l : List ℤ) → length (shifted o l) ≡ length o
-shifted_length [] l = refl
-shifted_length (d ∷ ds) [] = ap suc (shifted_length ds [])
-shifted_length (d ∷ ds) (e ∷ es) = ap suc (shifted_length ds es)
-
-counted_by : (o : Outline) (dims : ℕ) (w : Word) (offsets : List ℤ) → is_tensor o w ≡ true → has_wrong_dims o dims (Cell w offsets) ≡ false → length offsets ≡ dims
+counted_by : (o : Outline) (dims : ℕ) (w : Word) (offsets : List ℤ) → is_tensor o w ≡ true → has_wrong_dims o dims (Cell w offsets) ≡ false →
+    length offsets ≡ dims
 counted_by o dims w offsets t e =
     let f : not (length offsets == dims) ≡ false = rw t at e in
     eqb-true (length offsets) dims (false_not (length offsets == dims) f)
 
-far_by : (o : Outline) (left : List ℤ) (w : Word) (offsets : List ℤ) → is_tensor o w ≡ true → first_past 32768 (site_magnitudes o left (Cell w offsets)) ≡ None → first_past 32768 (map unsigned_abs (shifted offsets left)) ≡ None
+far_by : (o : Outline) (left : List ℤ) (w : Word) (offsets : List ℤ) → is_tensor o w ≡ true →
+    first_past 32768 (site_magnitudes o left (Cell w offsets)) ≡ None → first_past 32768 (map unsigned_abs (shifted offsets left)) ≡ None
 far_by o left w offsets t e = rw t at e
 
-pub good_read : (o : Outline) (p : PlainProgram) (dims : ℕ) (left : List ℤ) (w : Word) (offsets : List ℤ) (n : Option ℕ) → tensor_number o w ≡ n → Fits o p dims → FineCells o dims left (Cell w offsets ∷ []) → every (is_good_cell p) (cell_formula n (offset_or_none (shifted offsets left))) ≡ true
+pub good_read : (o : Outline) (p : PlainProgram) (dims : ℕ) (left : List ℤ) (w : Word) (offsets : List ℤ) (n : Option ℕ) → tensor_number o w ≡ n →
+    Fits o p dims → FineCells o dims left (Cell w offsets ∷ []) → every (is_good_cell p) (cell_formula n (offset_or_none (shifted offsets left))) ≡ true
 good_read o p dims left w offsets None is fits fine = refl
 good_read o p dims left w offsets (Some k) is fits fine =
     let number = number_of_tensor o w k is in
     let here = none_here (has_wrong_dims o dims) (Cell w offsets) [] fine.counted in
     let count : length offsets ≡ dims = counted_by o dims w offsets number.1 here.0 in
-    let far : first_past 32768 (map unsigned_abs (shifted offsets left)) ≡ None = far_by o left w offsets number.1 (none_first (first_past 32768 (site_magnitudes o left (Cell w offsets))) None fine.near) in
+    let far : first_past 32768 (map unsigned_abs (shifted offsets left)) ≡ None =
+    far_by o left w offsets number.1 (none_first (first_past 32768 (site_magnitudes o left (Cell w offsets))) None fine.near) in
     let near = near_all (shifted offsets left) far in
     let many : length (shifted offsets left) ≡ dims = shifted_length offsets left ∙ count in
     let small : nat_le (length (shifted offsets left)) 4 ≡ true = grind (arith, nat_tests, many, fits.few) in
     let stays : offset_or_none (shifted offsets left) ≡ shifted offsets left = rw (small, near) refl in
     let within : nat_lt k (length p.tensors) ≡ true = grind (arith, nat_tests, number.0, fits.tensors) in
-    let dimmed : (length (shifted offsets left) == suc (length p.extents)) ≡ true = eq-eqb (length (shifted offsets left)) (suc (length p.extents)) (many ∙ fits.extents) in
+    let dimmed : (length (shifted offsets left) == suc (length p.extents)) ≡ true =
+    eq-eqb (length (shifted offsets left)) (suc (length p.extents)) (many ∙ fits.extents) in
     rw (stays, within, dimmed, near) refl
 
-pub good_cells : (o : Outline) (p : PlainProgram) (dims : ℕ) (left : List ℤ) (t : Term) → Fits o p dims → FineCells o dims left (uses_in t) → every (is_good_cell p) (formula_of o left t) ≡ true
+pub good_cells : (o : Outline) (p : PlainProgram) (dims : ℕ) (left : List ℤ) (t : Term) → Fits o p dims → FineCells o dims left (uses_in t) →
+    every (is_good_cell p) (formula_of o left t) ≡ true
 good_cells o p dims left (literal n) fits fine = refl
 good_cells o p dims left (cell w offsets) fits fine =
     good_read o p dims left w offsets (tensor_number o w) refl fits fine
@@ -166,8 +170,12 @@ good_cells o p dims left (value w is) fits fine =
     no_cell (is_good_cell p) (position (λ q. is_same w q.name) o.params) (find (λ q. is_same w q.name) o.params) is
 good_cells o p dims left (unary op a) fits fine = good_cells o p dims left a fits fine
 good_cells o p dims left (binary op a b) fits fine =
-    rw (good_cells o p dims left a fits (fine_first o dims left a (uses_in b) fine)) (good_cells o p dims left b fits (fine_second o dims left a (uses_in b) fine))
+    rw (good_cells o p dims left a fits (fine_first o dims left a (uses_in b) fine))
+    (good_cells o p dims left b fits (fine_second o dims left a (uses_in b) fine))
 good_cells o p dims left (choice c a b) fits fine =
     let rest = fine_second o dims left c (uses_in a ++ uses_in b) fine in
-    rw (good_cells o p dims left c fits (fine_first o dims left c (uses_in a ++ uses_in b) fine), good_cells o p dims left a fits (fine_first o dims left a (uses_in b) rest)) (good_cells o p dims left b fits (fine_second o dims left a (uses_in b) rest))
+    rw (
+      good_cells o p dims left c fits (fine_first o dims left c (uses_in a ++ uses_in b) fine),
+      good_cells o p dims left a fits (fine_first o dims left a (uses_in b) rest),
+    ) (good_cells o p dims left b fits (fine_second o dims left a (uses_in b) rest))
 good_cells o p dims left (cast t a) fits fine = good_cells o p dims left a fits fine

@@ -45,11 +45,13 @@ loosen {ts} {a} zero m h t = let e : 0 ≡ m = omega arith in subst (λ (k : ℕ
 loosen {ts} {a} (suc l) m h t =
     elim (eqb_tells (suc l) m) [ inl e ↦ subst (λ (k : ℕ). IsTerm k ts a) e.1 t | inr n ↦ loosen l m (let ne = n.1 in omega arith) (tighter t) ]
 
-in_brackets : (line : ℕ) (toks : List Token) (a : Term) → IsTerm 0 (on line toks) a → IsTerm 10 (on line ((Sign OpenRound ∷ []) ++ (toks ++ (Sign CloseRound ∷ [])))) a
+in_brackets : (line : ℕ) (toks : List Token) (a : Term) → IsTerm 0 (on line toks) a →
+    IsTerm 10 (on line ((Sign OpenRound ∷ []) ++ (toks ++ (Sign CloseRound ∷ [])))) a
 in_brackets line toks a t =
     subst (λ (ps : List Placed). IsTerm 10 (symbol_on line OpenRound ∷ ps) a) (sym (on_both line toks (Sign CloseRound ∷ []))) (bracketed line line t)
 
-paired_by : (b : Bool) (line level least : ℕ) (toks : List Token) (a : Term) → nat_lt level least ≡ b → least ≤ 10 → IsTerm level (on line toks) a → IsTerm least (on line (pair_tokens (if b then 1 else 0) toks)) a
+paired_by : (b : Bool) (line level least : ℕ) (toks : List Token) (a : Term) → nat_lt level least ≡ b → least ≤ 10 → IsTerm level (on line toks) a →
+    IsTerm least (on line (pair_tokens (if b then 1 else 0) toks)) a
 paired_by true line level least toks a e h t =
     loosen 10 least h (in_brackets line toks a (loosen level 0 (omega arith) t))
 paired_by false line level least toks a e h t =
@@ -57,31 +59,44 @@ paired_by false line level least toks a e h t =
     subst (λ (us : List Token). IsTerm least (on line us) a) (sym (append-nil toks)) (loosen level least le t)
 
 -- an operand, in brackets where it binds looser than asked
-paired : (line least : ℕ) (f : Formula) (toks : List Token) (a : Term) → least ≤ 10 → IsTerm (level_of f) (on line toks) a → IsTerm least (on line (pair_tokens (pairs_round least f) toks)) a
+paired : (line least : ℕ) (f : Formula) (toks : List Token) (a : Term) → least ≤ 10 → IsTerm (level_of f) (on line toks) a →
+    IsTerm least (on line (pair_tokens (pairs_round least f) toks)) a
 paired line least f toks a h t = paired_by (nat_lt (level_of f) least) line (level_of f) least toks a refl h t
 
-infix_term : (line k : ℕ) (s : Symbol) (op : BinOp) (f g : Formula) (ts us : List Token) (a b : Term) → infix_of s ≡ Some (record { level = k; op = op }) → k ≤ 9 → IsTerm (level_of f) (on line ts) a → IsTerm (level_of g) (on line us) b → IsTerm k (on line (pair_tokens (pairs_round k f) ts ++ (Sign s ∷ pair_tokens (pairs_round (suc k) g) us))) (binary_term op a b)
+infix_term : (line k : ℕ) (s : Symbol) (op : BinOp) (f g : Formula) (ts us : List Token) (a b : Term) → infix_of s ≡ Some (record { level = k; op = op }) →
+    k ≤ 9 → IsTerm (level_of f) (on line ts) a → IsTerm (level_of g) (on line us) b →
+    IsTerm k (on line (pair_tokens (pairs_round k f) ts ++ (Sign s ∷ pair_tokens (pairs_round (suc k) g) us))) (binary_term op a b)
 infix_term line k s op f g ts us a b e h t u =
-    subst (λ (ps : List Placed). IsTerm k ps (binary_term op a b)) (sym (on_both line (pair_tokens (pairs_round k f) ts) (Sign s ∷ pair_tokens (pairs_round (suc k) g) us))) (joined line s op e (paired line k f ts a (omega arith) t) (paired line (suc k) g us b (omega arith) u))
+    subst (λ (ps : List Placed). IsTerm k ps (binary_term op a b)) (sym (on_both line (pair_tokens (pairs_round k f) ts)
+    (Sign s ∷ pair_tokens (pairs_round (suc k) g) us))) (joined line s op e (paired line k f ts a (omega arith) t)
+    (paired line (suc k) g us b (omega arith) u))
 
 one_inside : (line : ℕ) (ts : List Token) → on line ((ts ++ []) ++ (Sign CloseRound ∷ [])) ≡ on line ts ++ symbol_on line CloseRound ∷ []
 one_inside line ts = ap (λ (us : List Token). on line (us ++ (Sign CloseRound ∷ []))) (append-nil ts) ∙ on_both line ts (Sign CloseRound ∷ [])
 
-two_inside : (line : ℕ) (ts us : List Token) → on line ((ts ++ ((Sign Comma ∷ us) ++ [])) ++ (Sign CloseRound ∷ [])) ≡ on line ts ++ symbol_on line Comma ∷ (on line us ++ symbol_on line CloseRound ∷ [])
+two_inside : (line : ℕ) (ts us : List Token) → on line ((ts ++ ((Sign Comma ∷ us) ++ [])) ++ (Sign CloseRound ∷ [])) ≡
+    on line ts ++ symbol_on line Comma ∷ (on line us ++ symbol_on line CloseRound ∷ [])
 two_inside line ts us =
     ap (on line) (append_assoc ts ((Sign Comma ∷ us) ++ []) (Sign CloseRound ∷ []))
-    ∙ (on_both line ts (((Sign Comma ∷ us) ++ []) ++ (Sign CloseRound ∷ [])) ∙ ap (λ (ps : List Placed). on line ts ++ symbol_on line Comma ∷ ps) (one_inside line us))
+    ∙ (on_both line ts (((Sign Comma ∷ us) ++ []) ++ (Sign CloseRound ∷ [])) ∙
+    ap (λ (ps : List Placed). on line ts ++ symbol_on line Comma ∷ ps) (one_inside line us))
 
-three_inside : (line : ℕ) (ts us vs : List Token) → on line ((ts ++ ((Sign Comma ∷ us) ++ ((Sign Comma ∷ vs) ++ []))) ++ (Sign CloseRound ∷ [])) ≡ on line ts ++ symbol_on line Comma ∷ (on line us ++ symbol_on line Comma ∷ (on line vs ++ symbol_on line CloseRound ∷ []))
+three_inside : (line : ℕ) (ts us vs : List Token) → on line ((ts ++ ((Sign Comma ∷ us) ++ ((Sign Comma ∷ vs) ++ []))) ++ (Sign CloseRound ∷ [])) ≡
+    on line ts ++ symbol_on line Comma ∷ (on line us ++ symbol_on line Comma ∷ (on line vs ++ symbol_on line CloseRound ∷ []))
 three_inside line ts us vs =
     ap (on line) (append_assoc ts ((Sign Comma ∷ us) ++ ((Sign Comma ∷ vs) ++ [])) (Sign CloseRound ∷ []))
-    ∙ (on_both line ts (((Sign Comma ∷ us) ++ ((Sign Comma ∷ vs) ++ [])) ++ (Sign CloseRound ∷ [])) ∙ ap (λ (ps : List Placed). on line ts ++ symbol_on line Comma ∷ ps) (two_inside line us vs))
+    ∙ (on_both line ts (((Sign Comma ∷ us) ++ ((Sign Comma ∷ vs) ++ [])) ++ (Sign CloseRound ∷ [])) ∙
+    ap (λ (ps : List Placed). on line ts ++ symbol_on line Comma ∷ ps) (two_inside line us vs))
 
-call_term : (line : ℕ) (op : BinOp) (w : List ℕ) (ts us : List Token) (a b : Term) → call_text op ≡ Some w → IsTerm 0 (on line ts) a → IsTerm 0 (on line us) b → IsTerm 10 (on line (call_tokens w (ts ∷ us ∷ []))) (binary_term op a b)
+call_term : (line : ℕ) (op : BinOp) (w : List ℕ) (ts us : List Token) (a b : Term) → call_text op ≡ Some w → IsTerm 0 (on line ts) a →
+    IsTerm 0 (on line us) b → IsTerm 10 (on line (call_tokens w (ts ∷ us ∷ []))) (binary_term op a b)
 call_term line op w ts us a b e t u =
-    subst (λ (ps : List Placed). IsTerm 10 (name_on line w ∷ symbol_on line OpenRound ∷ ps) (binary_term op a b)) (sym (two_inside line ts us)) (a_call line line line line op w e t u)
+    subst (λ (ps : List Placed). IsTerm 10 (name_on line w ∷ symbol_on line OpenRound ∷ ps) (binary_term op a b)) (sym (two_inside line ts us))
+    (a_call line line line line op w e t u)
 
-binary_by : (line : ℕ) (op : BinOp) (f g : Formula) (ts us : List Token) (a b : Term) → IsTerm (level_of f) (on line ts) a → IsTerm (level_of g) (on line us) b → IsTerm (binary_row op).level (on line (binary_tokens op (left_pairs op f) (right_pairs op g) ts us)) (binary_term op a b)
+binary_by : (line : ℕ) (op : BinOp) (f g : Formula) (ts us : List Token) (a b : Term) → IsTerm (level_of f) (on line ts) a →
+    IsTerm (level_of g) (on line us) b →
+    IsTerm (binary_row op).level (on line (binary_tokens op (left_pairs op f) (right_pairs op g) ts us)) (binary_term op a b)
 binary_by line LogOr f g ts us a b t u = infix_term line 0 BarBar LogOr f g ts us a b refl (omega arith) t u
 binary_by line LogAnd f g ts us a b t u = infix_term line 1 AmpAmp LogAnd f g ts us a b refl (omega arith) t u
 binary_by line BitOr f g ts us a b t u = infix_term line 2 Bar BitOr f g ts us a b refl (omega arith) t u
@@ -103,13 +118,15 @@ binary_by line Min f g ts us a b t u =
 binary_by line Max f g ts us a b t u =
     call_term line Max (codes "max") ts us a b refl (loosen (level_of f) 0 (omega arith) t) (loosen (level_of g) 0 (omega arith) u)
 
-unary_by : (line : ℕ) (op : UnOp) (f : Formula) (ts : List Token) (a : Term) → IsTerm (level_of f) (on line ts) a → IsTerm (unary_row op).level (on line (unary_tokens op (operand_pairs op f) ts)) (unary_term op a)
+unary_by : (line : ℕ) (op : UnOp) (f : Formula) (ts : List Token) (a : Term) → IsTerm (level_of f) (on line ts) a →
+    IsTerm (unary_row op).level (on line (unary_tokens op (operand_pairs op f) ts)) (unary_term op a)
 unary_by line Plus f ts a t = prefixed line PlusSign Plus refl (paired line 9 f ts a (omega arith) t)
 unary_by line Minus f ts a t = prefixed line MinusSign Minus refl (paired line 9 f ts a (omega arith) t)
 unary_by line Flip f ts a t = prefixed line Tilde Flip refl (paired line 9 f ts a (omega arith) t)
 unary_by line Not f ts a t = prefixed line Bang Not refl (paired line 9 f ts a (omega arith) t)
 unary_by line Abs f ts a t =
-    subst (λ (ps : List Placed). IsTerm 10 (name_on line (codes "abs") ∷ symbol_on line OpenRound ∷ ps) (unary_term Abs a)) (sym (one_inside line ts)) (an_abs line line line (loosen (level_of f) 0 (omega arith) t))
+    subst (λ (ps : List Placed). IsTerm 10 (name_on line (codes "abs") ∷ symbol_on line OpenRound ∷ ps) (unary_term Abs a)) (sym (one_inside line ts))
+    (an_abs line line line (loosen (level_of f) 0 (omega arith) t))
 
 -- items on a line, one for each list of tokens
 abbrev pub AreItems : {A : Type 0} (IsItem : List Placed → A → Type 0) → ℕ → List (List Token) → List A → Type 0
@@ -118,16 +135,19 @@ AreItems IsItem line [] (a ∷ as') = ⊥
 AreItems IsItem line (t ∷ ts) [] = ⊥
 AreItems IsItem line (t ∷ ts) (a ∷ as') = IsItem (on line t) a × AreItems IsItem line ts as'
 
-parted : {A : Type 0} (IsItem : List Placed → A → Type 0) (line : ℕ) (t : List Token) (ts : List (List Token)) (a : A) (others : List A) → IsItem (on line t) a → AreItems IsItem line ts others → AreParted IsItem (on line (t ++ behind_comma_tokens ts)) (a ∷ others)
+parted : {A : Type 0} (IsItem : List Placed → A → Type 0) (line : ℕ) (t : List Token) (ts : List (List Token)) (a : A) (others : List A) →
+    IsItem (on line t) a → AreItems IsItem line ts others → AreParted IsItem (on line (t ++ behind_comma_tokens ts)) (a ∷ others)
 parted IsItem line t [] a [] h k =
     subst (λ (us : List Token). AreParted IsItem (on line us) (a ∷ [])) (sym (append-nil t)) (last_item h)
 parted IsItem line t [] a (b ∷ others) h k = absurd k
 parted IsItem line t (u ∷ ts) a [] h k = absurd k
 parted IsItem line t (u ∷ ts) a (b ∷ others) h k =
-    subst (λ (ps : List Placed). AreParted IsItem ps (a ∷ b ∷ others)) (sym (on_both line t ((Sign Comma ∷ u) ++ behind_comma_tokens ts))) (item_before line h (parted IsItem line u ts b others k.0 k.1))
+    subst (λ (ps : List Placed). AreParted IsItem ps (a ∷ b ∷ others)) (sym (on_both line t ((Sign Comma ∷ u) ++ behind_comma_tokens ts)))
+    (item_before line h (parted IsItem line u ts b others k.0 k.1))
 
 -- a list of one item or more in round brackets
-pub in_round : {A : Type 0} (IsItem : List Placed → A → Type 0) (line : ℕ) (t : List Token) (ts : List (List Token)) (a : A) (others : List A) → IsItem (on line t) a → AreItems IsItem line ts others → InRound (AreParted IsItem) (on line (listed_tokens (t ∷ ts))) (a ∷ others)
+pub in_round : {A : Type 0} (IsItem : List Placed → A → Type 0) (line : ℕ) (t : List Token) (ts : List (List Token)) (a : A) (others : List A) →
+    IsItem (on line t) a → AreItems IsItem line ts others → InRound (AreParted IsItem) (on line (listed_tokens (t ∷ ts))) (a ∷ others)
 in_round IsItem line t ts a others h k = record {
   opened = line;
   inside = on line (t ++ behind_comma_tokens ts);
@@ -170,7 +190,8 @@ pub cast_word : (t : IntType) → IsType t → is_cast_word (type_text t) ≡ tr
 unfolding type_text
 cast_word t h =
     let small : t.bits < 2 ^ 64 = omega (arith, h.most) in
-    let a = both_of (is_some_digits (decimal t.bits) && (not (begins_with_zero (decimal t.bits)) || length (decimal t.bits) == 1)) (nat_lt (value_behind 0 (decimal t.bits)) (2 ^ 64)) (number_is t.bits small) in
+    let a = both_of (is_some_digits (decimal t.bits) && (not (begins_with_zero (decimal t.bits)) || length (decimal t.bits) == 1))
+    (nat_lt (value_behind 0 (decimal t.bits)) (2 ^ 64)) (number_is t.bits small) in
     cast_by t.signed t.bits (both_of (is_some_digits (decimal t.bits)) (not (begins_with_zero (decimal t.bits)) || length (decimal t.bits) == 1) a.0).0
 
 -- no name of a tensor or param is reserved
@@ -181,13 +202,15 @@ pub record IsFree (p : PlainProgram) : Type 0 where
 abbrev value_by : ℕ → Option PlainParam → List Token
 value_by i r = elim r [ None ↦ [] | Some q ↦ Name q.name ∷ index_tokens (indexes q.sizes i) ]
 
-value_term : (p : PlainProgram) (line k i : ℕ) (r : Option PlainParam) → IsFree p → slice_get p.params k ≡ r → (elim r as (λ v. Bool) [ None ↦ false | Some q ↦ nat_lt i (size q.sizes) ]) ≡ true → IsTerm 10 (on line (value_by i r)) (written_value line i r)
+value_term : (p : PlainProgram) (line k i : ℕ) (r : Option PlainParam) → IsFree p → slice_get p.params k ≡ r →
+    (elim r as (λ v. Bool) [ None ↦ false | Some q ↦ nat_lt i (size q.sizes) ]) ≡ true → IsTerm 10 (on line (value_by i r)) (written_value line i r)
 value_term p line k i None h e u = cc
 value_term p line k i (Some q) h e u =
     a_value (word line q.name) (h.params k q e) (numbers line (indexes q.sizes i)) (few_indexes q.sizes i)
 
 -- the tokens of a formula
-pub formula_term : (p : PlainProgram) (line : ℕ) (f : Formula) → IsFree p → each_use (is_good_cell p) (is_good_place p) f ≡ true → IsSized f → IsTerm (level_of f) (on line (formula_tokens p f)) (written p line f)
+pub formula_term : (p : PlainProgram) (line : ℕ) (f : Formula) → IsFree p → each_use (is_good_cell p) (is_good_place p) f ≡ true → IsSized f →
+    IsTerm (level_of f) (on line (formula_tokens p f)) (written p line f)
 formula_term p line (number n) h u s = a_literal line n
 formula_term p line (read k ds) h u s =
     let there = cell_there p k ds u in
@@ -197,16 +220,22 @@ formula_term p line (unary op a) h u s =
     unary_by line op a (formula_tokens p a) (written p line a) (formula_term p line a h u s)
 formula_term p line (binary op a b) h u s =
     let both = both_of (each_use (is_good_cell p) (is_good_place p) a) (each_use (is_good_cell p) (is_good_place p) b) u in
-    binary_by line op a b (formula_tokens p a) (formula_tokens p b) (written p line a) (written p line b) (formula_term p line a h both.0 s.0) (formula_term p line b h both.1 s.1)
+    binary_by line op a b (formula_tokens p a) (formula_tokens p b) (written p line a) (written p line b) (formula_term p line a h both.0 s.0)
+    (formula_term p line b h both.1 s.1)
 formula_term p line (choice c a b) h u s =
     let e : Formula → Bool = each_use (is_good_cell p) (is_good_place p) in
     let both = both_of (e c && e a) (e b) u in
     let front = both_of (e c) (e a) both.0 in
-    subst (λ (ps : List Placed). IsTerm 10 (name_on line (codes "select") ∷ symbol_on line OpenRound ∷ ps) (choice_term (written p line c) (written p line a) (written p line b))) (sym (three_inside line (formula_tokens p c) (formula_tokens p a) (formula_tokens p b)))
-    (a_choice line line line line line (loosen (level_of c) 0 (omega arith) (formula_term p line c h front.0 s.0)) (loosen (level_of a) 0 (omega arith) (formula_term p line a h front.1 s.1)) (loosen (level_of b) 0 (omega arith) (formula_term p line b h both.1 s.2)))
+    subst (λ (ps : List Placed). IsTerm 10 (name_on line (codes "select") ∷ symbol_on line OpenRound ∷ ps)
+    (choice_term (written p line c) (written p line a) (written p line b))) (sym
+    (three_inside line (formula_tokens p c) (formula_tokens p a) (formula_tokens p b)))
+    (a_choice line line line line line (loosen (level_of c) 0 (omega arith) (formula_term p line c h front.0 s.0))
+    (loosen (level_of a) 0 (omega arith) (formula_term p line a h front.1 s.1)) (loosen (level_of b) 0 (omega arith) (formula_term p line b h both.1 s.2)))
 formula_term p line (cast t a) h u s =
-    subst (λ (ps : List Placed). IsTerm 10 (name_on line (type_text t) ∷ symbol_on line OpenRound ∷ ps) (cast_term (word line (type_text t)) (written p line a))) (sym (one_inside line (formula_tokens p a)))
+    subst (λ (ps : List Placed). IsTerm 10 (name_on line (type_text t) ∷ symbol_on line OpenRound ∷ ps)
+    (cast_term (word line (type_text t)) (written p line a))) (sym (one_inside line (formula_tokens p a)))
     (a_cast (word line (type_text t)) line line (cast_word t s.0) (loosen (level_of a) 0 (omega arith) (formula_term p line a h u s.1)))
 
-pub is_formula : (p : PlainProgram) (line : ℕ) (f : Formula) → IsFree p → each_use (is_good_cell p) (is_good_place p) f ≡ true → IsSized f → IsFormula (on line (formula_tokens p f)) (written p line f)
+pub is_formula : (p : PlainProgram) (line : ℕ) (f : Formula) → IsFree p → each_use (is_good_cell p) (is_good_place p) f ≡ true → IsSized f →
+    IsFormula (on line (formula_tokens p f)) (written p line f)
 is_formula p line f h u s = loosen (level_of f) 0 (omega arith) (formula_term p line f h u s)

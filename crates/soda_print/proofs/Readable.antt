@@ -165,7 +165,7 @@ writable p (choice c a b) qs ts u s small =
     )
 writable p (cast t a) qs ts u s small = (type_named t s.0, writable p a qs ts u s.1 small)
 
--- one param more
+-- the values of one param and of those after it
 pub count_cons : (q : PlainParam) (qs : List PlainParam) → value_count (q ∷ qs) ≡ size q.sizes + value_count qs
 count_cons q qs = sum_by-cons (λ (r : PlainParam). size r.sizes) q qs
 

@@ -81,7 +81,8 @@ pub data IsStatement : List Placed → PlainStatement → Type 0 where
       (burst_width line width)
   an_unroll_factor : (line second colon at factor : ℕ)
       → IsStatement
-      (name_on line (codes "unroll") ∷ name_on second (codes "factor") ∷ symbol_on colon Colon ∷ number_on at factor ∷ [])
+      (name_on line (codes "unroll") ∷ name_on second (codes "factor")
+      ∷ symbol_on colon Colon ∷ number_on at factor ∷ [])
       (unroll_factor line factor)
   an_iterate : (line colon at times : ℕ)
       → IsStatement

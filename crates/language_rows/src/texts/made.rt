@@ -2,6 +2,7 @@
 
 use super::{OPENED, SETTINGS, told};
 use soda_parse::NoMemory;
+use soda_words::MOST_TEXT;
 use std::alloc::Global;
 use std::test::Fail;
 
@@ -61,7 +62,7 @@ fn sizes_of_formulas_and_names(rt: HostRuntime) -> Result<(), Fail> {
     let alloc = rt.alloc();
     for (pieces, times, want) in SIZES {
         let text = long(alloc, pieces, times)?;
-        let found = told::answer(alloc, text.as_bytes(), 16384)?;
+        let found = told::answer(alloc, text.as_bytes(), MOST_TEXT)?;
         assert_eq!(rt; found.as_str(), want, "{text}");
     }
     Ok(())
@@ -129,7 +130,7 @@ fn counts_at_their_limits(rt: HostRuntime) -> Result<(), Fail> {
     let alloc = rt.alloc();
     for (pieces, want) in COUNTS {
         let text = text_of(alloc, pieces)?;
-        let found = told::answer(alloc, text.as_bytes(), 65536)?;
+        let found = told::answer(alloc, text.as_bytes(), MOST_TEXT)?;
         assert_eq!(rt; found.as_str(), want, "{text}");
     }
     Ok(())

@@ -2,6 +2,7 @@
 
 use super::told;
 use soda_parse::NoMemory;
+use soda_words::{MOST_CANONICAL, MOST_TEXT};
 use std::alloc::Global;
 use std::process::Abort;
 use std::test::Fail;
@@ -68,7 +69,7 @@ const FORMULAS: [(&str, &str, &str); 17] = [
 // What the program with this formula says, whether it is written or printed so.
 fn told_of(alloc: Global, formula: &str) -> Result<String, NoMemory> {
     let text = format!(in alloc; "{OPENED}{formula}\n")?;
-    told::program(alloc, text.as_bytes(), 67_108_864)
+    told::program(alloc, text.as_bytes(), MOST_CANONICAL)
 }
 
 #[test]
@@ -153,10 +154,10 @@ fn add_under(alloc: Global, op: Binary, call: &str, text: &mut String) -> Result
 
 // The program of a text, printed and read back, is the same.
 fn expect_read_back(rt: &impl Abort, alloc: Global, text: &str) -> Result<(), Fail> {
-    let written = told::program(alloc, text.as_bytes(), 65_536)?;
+    let written = told::program(alloc, text.as_bytes(), MOST_TEXT)?;
     assert!(rt; written.starts_with(OPENED_TOLD), "{text}: {written}");
     let printed = told::printed(alloc, text.as_bytes())?;
-    let read = told::program(alloc, &printed, 65_536)?;
+    let read = told::program(alloc, &printed, MOST_TEXT)?;
     assert_eq!(rt; read, written, "{text}");
     Ok(())
 }

@@ -2,6 +2,7 @@
 
 use soda_ir::{Expr, Offset, Param, Program, Tensor};
 use soda_parse::{NoMemory, ParseFail, parse, print};
+use soda_words::MOST_TEXT;
 use std::alloc::Global;
 
 /// The answer to a text of at most so many bytes: `accepted`, or the refusal.
@@ -118,7 +119,7 @@ pub(super) fn program(alloc: Global, text: &[u8], most: u32) -> Result<String, N
 
 /// The canonical text of the program of a text, and no text where it has none.
 pub(super) fn printed(alloc: Global, text: &[u8]) -> Result<Vec<u8>, NoMemory> {
-    match parse(alloc, text, 65_536) {
+    match parse(alloc, text, MOST_TEXT) {
         Ok(program) => {
             let printed = print(alloc, &program);
             drop(program);

@@ -8,4 +8,5 @@ use Rattle.soda_parse.proofs.conditions.are_filled.Goals as goal
 pub returns : goal.returns
 returns c =
     let p = c.args.parts.now in
-    c.fill_burst.ensures ∙ (ap (λ ts. list_all (λ t. fills_burst p.burst (plain_tensor t)) ts) c.as_slice.ensures ∙ sym (list_all-map (fills_burst p.burst) plain_tensor p.tensors))
+    c.fill_burst.ensures ∙ (ap (λ ts. list_all (λ t. fills_burst p.burst (plain_tensor t)) ts) c.as_slice.ensures ∙
+    sym (list_all-map (fills_burst p.burst) plain_tensor p.tensors))

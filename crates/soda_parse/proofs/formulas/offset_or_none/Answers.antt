@@ -8,4 +8,8 @@ returns-then-offsets-gt4 c = c.new-offset.ensures ∙ too_many c.args.offsets.no
 
 pub loop-i-preserved : goal.loop-i-preserved
 loop-i-preserved c =
-    shifted_more c.loop-i.offset.items _ c.args.offsets.now c.args.left.now c.loop-i.i c.in-Some.near c.loop-i.invariant c.loop-i-test.true (grind (arith, to_z-of_z, ints)) (grind (arith, to_z-of_z, ints)) (grind (arith, to_z-of_z, ints))
+    shifted_more c.loop-i.offset.items _ c.args.offsets.now c.args.left.now c.loop-i.i c.in-Some.near c.loop-i.invariant c.loop-i-test.true (grind (
+      arith,
+      to_z-of_z,
+      ints,
+    )) (grind (arith, to_z-of_z, ints)) (grind (arith, to_z-of_z, ints))

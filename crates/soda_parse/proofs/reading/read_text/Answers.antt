@@ -11,4 +11,5 @@ returns-in-Some-clause-refused c = no_ascii c.if-text-most.false (sym c.not_asci
 
 pub returns-in-Err-clause-refused : goal.returns-in-Err-clause-refused
 returns-in-Err-clause-refused c =
-    rw c.unread.ensures (syntax_refused ℕ ℕ c.args.most c.args.text.now c.in-Err.fail c.if-text-most.false (sym c.not_ascii.ensures ∙ c.in_default.is) c.in-Err.ensures.refused)
+    rw c.unread.ensures (syntax_refused ℕ ℕ c.args.most c.args.text.now c.in-Err.fail c.if-text-most.false (sym c.not_ascii.ensures ∙
+    c.in_default.is) c.in-Err.ensures.refused)

@@ -22,8 +22,11 @@ loop-at-preserved c = record {
 
 pub returns-in-Some-clause-found : goal.returns-in-Some-clause-found
 returns-in-Some-clause-found c =
-    plain_read c.args.tokens.now _ c.loop-at.stage c.in-Some.statement (at_end c.args.tokens.now c.loop-at.at c.loop-at.stage c.loop-at-test.false c.loop-at.invariant.read) (sym c.finish.ensures ∙ c.in-Some.is)
+    plain_read c.args.tokens.now _ c.loop-at.stage c.in-Some.statement
+    (at_end c.args.tokens.now c.loop-at.at c.loop-at.stage c.loop-at-test.false c.loop-at.invariant.read) (sym c.finish.ensures ∙ c.in-Some.is)
 
 pub returns-in-None-clause-wrong : goal.returns-in-None-clause-wrong
 returns-in-None-clause-wrong c =
-    plain_stop c.args.tokens.now _ c.loop-at.stage (at_end c.args.tokens.now c.loop-at.at c.loop-at.stage c.loop-at-test.false c.loop-at.invariant.read) (sym c.finish.ensures ∙ c.in-None.is) c.loop-at.invariant.no_formula
+    plain_stop c.args.tokens.now _ c.loop-at.stage
+    (at_end c.args.tokens.now c.loop-at.at c.loop-at.stage c.loop-at-test.false c.loop-at.invariant.read)
+    (sym c.finish.ensures ∙ c.in-None.is) c.loop-at.invariant.no_formula

@@ -1,0 +1,166 @@
+-- Written tokens have at most so many counted tokens and open brackets.
+use Rattle.std.proofs.Common.{◌≡◌, inl, inr, ℕ, suc, ◌+◌, ◌-◌, ◌*◌, ◌≤◌, ◌==◌, ◌&&◌, Bool, true, false, List, [], ◌∷◌, ◌++◌, length, map, Some, None, Option, refl, sym, ap, ◌∙◌, subst, arith, append_assoc, append-nil, codes, ℤ}
+use Rattle.std.specs.Prelude.{max, nat_le, nat_lt, slice_get, if◌then◌else◌}
+use Rattle.std.proofs.lemmas.Bool.Decides.{nat_tests}
+use Rattle.soda_words.specs.declared.operators.UnOp.{UnOp}
+use Rattle.soda_words.specs.declared.operators.UnOp.TheVariants.{Plus, Minus, Flip, Not, Abs}
+use Rattle.soda_words.specs.declared.operators.BinOp.{BinOp}
+use Rattle.soda_words.specs.declared.operators.BinOp.TheVariants.{LogOr, LogAnd, BitOr, BitXor, BitAnd, Eq, Ne, Lt, Le, Gt, Ge, Add, Sub, Mul, Div, Rem, Min, Max}
+use Rattle.soda_formula.specs.Grammar.{symbol_on, name_on, number_on, AreParted, last_item, item_before, IsComponent, ahead, back, AreOffsets, AreIndexes, no_index, index_before}
+use Rattle.soda_formula.specs.Reading.{Place, outside, behind_name, in_offsets, counted_tokens_from, open_behind, open_brackets_from, place_behind}
+use Rattle.soda_ir.specs.Formula.{Formula, number, read, param as value_of, unary, binary, choice, cast}
+use Rattle.soda_ir.specs.Points.{size}
+use Rattle.soda_ir.specs.Program.{PlainParam, PlainProgram}
+use Rattle.soda_ir.specs.Uses.{each_use, is_good_cell, is_good_place}
+use Rattle.soda_ir.specs.Written.{left_pairs, most_open, pairs_round, right_pairs, token_count}
+use Rattle.soda_print.specs.Canonical.{indexes, tensor_name, type_text}
+use Rattle.soda_print.specs.Sized.{IsSized}
+use Rattle.soda_print.proofs.CallerLemmas.{call_tokens, component_tokens, formula_tokens, index_tokens, listed_tokens, pair_tokens, parted_tokens, few_indexes}
+use Rattle.soda_syntax.proofs.CallerLemmas.{IsSmallFormula}
+use Rattle.soda_words.specs.Names.{is_cast_word, is_reserved}
+use Rattle.soda_words.specs.declared.symbol.Symbol.{Symbol}
+use Rattle.soda_words.specs.declared.symbol.Symbol.TheVariants.{BarBar, AmpAmp, EqualEqual, BangEqual, LessEqual, GreaterEqual, Bar, Caret, Amp, Less, Greater, PlusSign, MinusSign, Star, Slash, Percent, Tilde, Bang, OpenRound, CloseRound, Comma}
+use Rattle.soda_words.specs.declared.token.Placed.{Placed}
+use Rattle.soda_words.specs.declared.token.Token.{Token}
+use Rattle.soda_words.specs.declared.token.Token.TheVariants.{Name, Sign}
+use Rattle.soda_parse.proofs.ReadBack.{cell_there}
+use Rattle.soda_parse.proofs.SameTypes.{both_of}
+use Rattle.soda_parse.proofs.WrittenFormulas.{IsFree, cast_word, numbers, offsets, on, on_both}
+use Rattle.std.proofs.lemmas.Bool.{leb-true}
+use Rattle.soda_parse.proofs.TokenCounts.{Closed, peak, peak_least, IsPassing, passes, passing_closed, reserved_counts, free_counts, one_if_some, comma_passes, cast_reserved}
+
+-- at most n tokens count, and at most m brackets are open at once, wherever these tokens stand
+pub record Costs (n m : ℕ) (ts : List Placed) : Type 0 where
+  pub counts : (rest : List Placed) → Closed rest → counted_tokens_from outside (ts ++ rest) ≤ n + counted_tokens_from outside rest
+  pub opens : (k : ℕ) (rest : List Placed) → peak k (ts ++ rest) ≤ max (m + k) (peak k rest)
+
+pub costs_more : (n m a b : ℕ) (ts : List Placed) → Costs n m ts → n ≤ a → m ≤ b → Costs a b ts
+costs_more n m a b ts t le most = record {
+  counts = λ rest closed. omega (arith, t.counts rest closed);
+  opens = λ k rest. omega (arith, t.opens k rest);
+}
+
+pub passing_peak : (line : ℕ) (s : Symbol) (k : ℕ) (rest : List Placed) → IsPassing s → peak k (symbol_on line s ∷ rest) ≤ peak k rest
+passing_peak line s k rest pass =
+    let same : peak (open_behind k (Sign s)) rest ≡ peak k rest = ap (λ (n : ℕ). peak n rest) (pass.level k) in
+    omega (arith, peak_least k rest)
+
+pub costs_joined : (n m a b line : ℕ) (s : Symbol) (ts us : List Placed) → IsPassing s → Costs n m ts → Costs a b us →
+    Costs (n + 1 + a) (max m b) (ts ++ symbol_on line s ∷ us)
+costs_joined n m a b line s ts us pass t u = record {
+  counts = λ rest closed. rw (append_assoc ts (symbol_on line s ∷ us) rest) (omega (
+    arith,
+    t.counts (symbol_on line s ∷ (us ++ rest)) (passing_closed line s (us ++ rest) pass),
+    u.counts rest closed,
+  ));
+  opens = λ k rest. rw (append_assoc ts (symbol_on line s ∷ us) rest) (omega (
+    arith,
+    t.opens k (symbol_on line s ∷ (us ++ rest)),
+    passing_peak line s k (us ++ rest) pass,
+    u.opens k rest,
+  ));
+}
+
+pub costs_round : (n m opened closed : ℕ) (ts : List Placed) → Costs n m ts →
+    Costs (n + 2) (m + 1) (symbol_on opened OpenRound ∷ (ts ++ symbol_on closed CloseRound ∷ []))
+costs_round n m opened closed ts t = record {
+  counts = λ rest shut. rw (append_assoc ts (symbol_on closed CloseRound ∷ []) rest) (omega (arith, t.counts (symbol_on closed CloseRound ∷ rest) refl));
+  opens = λ k rest. let less : suc k - 1 ≡ k = omega arith in let same : peak (suc k - 1) rest ≡ peak k rest = ap (λ (i : ℕ). peak i rest) less in
+      rw (append_assoc ts (symbol_on closed CloseRound ∷ []) rest) (omega (arith, same, t.opens (suc k) (symbol_on closed CloseRound ∷ rest)));
+}
+
+pub costs_sign : (n m line : ℕ) (s : Symbol) (ts : List Placed) → IsPassing s → Costs n m ts → Costs (1 + n) m (symbol_on line s ∷ ts)
+costs_sign n m line s ts pass t = record {
+  counts = λ rest closed. omega (arith, t.counts rest closed);
+  opens = λ k rest. omega (arith, t.opens k rest, passing_peak line s k (ts ++ rest) pass);
+}
+
+pub costs_named : (n m line : ℕ) (text : List ℕ) (ts : List Placed) → is_reserved text ≡ true → Costs n m ts → Costs (1 + n) m (name_on line text ∷ ts)
+costs_named n m line text ts e t = record {
+  counts = λ rest closed. omega (arith, reserved_counts line text (ts ++ rest) e, t.counts rest closed);
+  opens = λ k rest. omega (arith, t.opens k rest, peak_least k rest);
+}
+
+-- offsets
+pub component_counts : (ts : List Placed) (d : ℤ) (rest : List Placed) → IsComponent ts d →
+    counted_tokens_from in_offsets (ts ++ rest) ≤ 1 + counted_tokens_from in_offsets rest
+component_counts ts d rest (ahead line n) = omega arith
+component_counts ts d rest (back minus line n) = omega arith
+
+pub component_peak : (ts : List Placed) (d : ℤ) (k : ℕ) (rest : List Placed) → IsComponent ts d → peak k (ts ++ rest) ≤ peak k rest
+component_peak ts d k rest (ahead line n) = omega (arith, peak_least k rest)
+component_peak ts d k rest (back minus line n) = omega (arith, peak_least k rest)
+
+pub components_count : (ts : List Placed) (ds : List ℤ) (rest : List Placed) → AreParted IsComponent ts ds →
+    suc (counted_tokens_from in_offsets (ts ++ rest)) ≤ 2 * length ds + counted_tokens_from in_offsets rest
+components_count ts ds rest (last_item {ts = us} {a = d} item) = omega (arith, component_counts us d rest item)
+components_count ts ds rest (item_before {ts = us} {us = vs} {a = d} {others = es} line item more) =
+    rw (append_assoc us (symbol_on line Comma ∷ vs) rest) (omega (
+      arith,
+      component_counts us d (symbol_on line Comma ∷ (vs ++ rest)) item,
+      components_count vs es rest more,
+    ))
+
+pub components_peak : (ts : List Placed) (ds : List ℤ) (k : ℕ) (rest : List Placed) → AreParted IsComponent ts ds → peak k (ts ++ rest) ≤ peak k rest
+components_peak ts ds k rest (last_item {ts = us} {a = d} item) = component_peak us d k rest item
+components_peak ts ds k rest (item_before {ts = us} {us = vs} {a = d} {others = es} line item more) =
+    rw (append_assoc us (symbol_on line Comma ∷ vs) rest) (omega (
+      arith,
+      component_peak us d k (symbol_on line Comma ∷ (vs ++ rest)) item,
+      components_peak vs es k rest more,
+      peak_least k rest,
+    ))
+
+pub costs_round_cell : (line opened closed : ℕ) (text : List ℕ) (ds : List ℤ) (inside : List Placed) → is_reserved text ≡ false →
+    AreParted IsComponent inside ds →
+    Costs (2 + 2 * length ds) 1 (name_on line text ∷ symbol_on opened OpenRound ∷ (inside ++ symbol_on closed CloseRound ∷ []))
+costs_round_cell line opened closed text ds inside e are = record {
+  counts = λ rest shut. rw (append_assoc inside (symbol_on closed CloseRound ∷ []) rest) (omega (
+    arith,
+    free_counts line text (symbol_on opened OpenRound ∷ (inside ++ symbol_on closed CloseRound ∷ rest)) e,
+    components_count inside ds (symbol_on closed CloseRound ∷ rest) are,
+  ));
+  opens = λ k rest. let less : suc k - 1 ≡ k = omega arith in let same : peak (suc k - 1) rest ≡ peak k rest = ap (λ (i : ℕ). peak i rest) less in
+      rw (append_assoc inside (symbol_on closed CloseRound ∷ []) rest) (omega (
+        arith,
+        same,
+        components_peak inside ds (suc k) (symbol_on closed CloseRound ∷ rest) are,
+      ));
+}
+
+pub costs_cell : (line : ℕ) (text : List ℕ) (ts : List Placed) (ds : List ℤ) → is_reserved text ≡ false → AreOffsets ts ds →
+    Costs (2 + 2 * length ds) 1 (name_on line text ∷ ts)
+costs_cell line text ts ds e are =
+    subst (λ (us : List Placed). Costs (2 + 2 * length ds) 1 (name_on line text ∷ us)) (sym are.is)
+    (costs_round_cell line are.opened are.closed text ds are.inside e are.item)
+
+pub indexes_count : (ts : List Placed) (ks : List ℕ) (rest : List Placed) → AreIndexes ts ks →
+    counted_tokens_from outside (ts ++ rest) ≤ 3 * length ks + counted_tokens_from outside rest
+indexes_count ts ks rest no_index = omega arith
+indexes_count ts ks rest (index_before {ts = us} {indexes = js} opened line n closed more) = omega (arith, indexes_count us js rest more)
+
+pub named_count : (ts : List Placed) (ks : List ℕ) (rest : List Placed) → Closed rest → AreIndexes ts ks →
+    counted_tokens_from behind_name (ts ++ rest) ≤ 3 * length ks + counted_tokens_from outside rest
+named_count ts ks rest closed no_index = omega arith
+named_count ts ks rest closed (index_before {ts = us} {indexes = js} opened line n shut more) = omega (arith, indexes_count us js rest more)
+
+pub indexes_peak : (ts : List Placed) (ks : List ℕ) (k : ℕ) (rest : List Placed) → AreIndexes ts ks → peak k (ts ++ rest) ≤ max (1 + k) (peak k rest)
+indexes_peak ts ks k rest no_index = omega arith
+indexes_peak ts ks k rest (index_before {ts = us} {indexes = js} opened line n closed more) =
+    let less : suc k - 1 ≡ k = omega arith in
+    let same : peak (suc k - 1) (us ++ rest) ≡ peak k (us ++ rest) = ap (λ (i : ℕ). peak i (us ++ rest)) less in
+    omega (arith, same, indexes_peak us js k rest more)
+
+pub indexes_open : (ts : List Placed) (ks : List ℕ) (k : ℕ) (rest : List Placed) → AreIndexes ts ks →
+    peak k (ts ++ rest) ≤ max (one_if_some (length ks) + k) (peak k rest)
+indexes_open ts ks k rest no_index = omega arith
+indexes_open ts ks k rest (index_before {ts = us} {indexes = js} opened line n closed more) =
+    let one : one_if_some (suc (length js)) ≡ 1 = grind (arith, nat_tests) in
+    omega (arith, one, indexes_peak _ (n ∷ js) k rest (index_before opened line n closed more))
+
+pub costs_value : (line : ℕ) (text : List ℕ) (ts : List Placed) (ks : List ℕ) → is_reserved text ≡ false → AreIndexes ts ks →
+    Costs (1 + 3 * length ks) (one_if_some (length ks)) (name_on line text ∷ ts)
+costs_value line text ts ks e are = record {
+  counts = λ rest closed. omega (arith, free_counts line text (ts ++ rest) e, named_count ts ks rest closed are);
+  opens = λ k rest. omega (arith, indexes_open ts ks k rest are, peak_least k rest);
+}
