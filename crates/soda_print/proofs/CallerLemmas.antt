@@ -1,7 +1,8 @@
 -- What crates above cite: the tokens of a canonical text, and that it has them, is ASCII and is no longer than a text may be.
 -- tokens of formulas, of lines and of a whole canonical text, and their lines
 pub use Rattle.soda_print.proofs.Tokens.{on_line}
-pub use Rattle.soda_print.proofs.Tokenized.{behind_comma_tokens, binary_tokens, call_tokens, component_tokens, formula_tokens, index_tokens, listed_tokens, pair_tokens, parted_tokens, unary_tokens}
+pub use Rattle.soda_print.proofs.Tokenized.{behind_comma_tokens, listed_tokens, pair_tokens, parted_tokens}
+pub use Rattle.soda_print.proofs.Tokenized.{binary_tokens, call_tokens, component_tokens, formula_tokens, index_tokens, unary_tokens}
 pub use Rattle.soda_print.proofs.Read.{canonical_tokens, left_tokens, param_tokens, placed_lines, tensor_tokens, tile_tokens}
 -- sizes: none is 0 and so their product is positive, and a param has no more values than all params together
 pub use Rattle.soda_print.proofs.Readable.{count_cons, count_there, positive, some}

@@ -43,6 +43,7 @@ nonzero n = not (n == 0)
 pub some : (n : ℕ) → nonzero n ≡ true → 1 ≤ n
 some n h = grind (arith, nat_tests)
 
+-- the product of sizes that are not 0 is not 0
 pub positive : (ns : List ℕ) → list_all nonzero ns ≡ true → 1 ≤ size ns
 positive [] h = omega arith
 positive (n ∷ ns) h =
@@ -168,6 +169,7 @@ writable p (cast t a) qs ts u s small = (type_named t s.0, writable p a qs ts u 
 pub count_cons : (q : PlainParam) (qs : List PlainParam) → value_count (q ∷ qs) ≡ size q.sizes + value_count qs
 count_cons q qs = sum_by-cons (λ (r : PlainParam). size r.sizes) q qs
 
+-- a param has no more values than all params together
 pub count_there : (qs : List PlainParam) (k : ℕ) (q : PlainParam) → slice_get qs k ≡ Some q → size q.sizes ≤ value_count qs
 count_there [] k q e = cc
 count_there (r ∷ qs) zero q e =

@@ -75,6 +75,7 @@ few_by : (z : Bool) (i j n : ℕ) → 2 ≤ n → length (if z then [] else i �
 few_by true i j n h = omega arith
 few_by false i j n h = omega arith
 
+-- a place has no more indexes than its param has sizes
 pub few_indexes : (ns : List ℕ) (i : ℕ) → length (indexes ns i) ≤ length ns
 few_indexes [] i = omega arith
 few_indexes (n ∷ []) i = omega arith
