@@ -46,6 +46,7 @@ one_small b (k ∷ ks) e =
     let here = none_here (λ (m : ℕ). nat_lt 65536 m) (b + 1 * k) (map (λ m. b + m) (partial_products (1 * k) ks)) e in
     subst (λ (m : ℕ). b + m ≤ 65536) (ap (λ (m : ℕ). m * size ks) (one-mul k)) (sum_small b (1 * k) ks (not_past (b + 1 * k) here.0) here.1)
 
+-- the values of params are those of the first and of the others
 pub count_cons : (q : PlainParam) (qs : List PlainParam) → value_count (q ∷ qs) ≡ size q.sizes + value_count qs
 count_cons q qs = sum_by-cons (λ (r : PlainParam). size r.sizes) q qs
 
@@ -114,6 +115,7 @@ same_test : (cells : ℕ → List ℤ → Bool) (values : ℕ → ℕ → Bool) 
 same_test cells values None offset = refl
 same_test cells values (Some k) offset = refl
 
+-- what a formula of a text names is there: its cells are good, and its places in range
 pub good_uses : (o : Outline) (p : PlainProgram) (dims : ℕ) (left : List ℤ) (t : Term) → Fits o p dims → HasParams o p → FineCells o dims left (uses_in t) →
     find (is_wrong_site o) (uses_in t) ≡ None → each_use (is_good_cell p) (is_good_place p) (formula_of o left t) ≡ true
 good_uses o p dims left (literal n) fits h fine e = refl
