@@ -26,6 +26,7 @@ accepted p v s = record {
   is = sym (program_back p v s);
 }
 
+-- the canonical text of a valid program whose numbers fit is accepted as it
 pub accepted_text : (bytes : List ℕ) (p : PlainProgram) → IsValid p → IsSizedProgram p → bytes ≡ canonical p → Accepts 67108864 bytes p
 accepted_text bytes p v s e = subst (λ (w : List ℕ). Accepts 67108864 w p) (sym e) (accepted p v s)
 
@@ -40,11 +41,13 @@ pub text_read_back : {A E : Type 0} (bytes_of : A → List ℕ) (r : Result A E)
 text_read_back bytes_of (Ok t) p e v s = accepted_text (bytes_of t) p v s e
 text_read_back bytes_of (Err f) p e v s = tt
 
+-- bytes that are a program's canonical text are accepted as no other program
 pub text_of_one : {A E : Type 0} (bytes_of : A → List ℕ) (r : Result A E) (p : PlainProgram) → IfOk r (λ t. bytes_of t ≡ canonical p) →
     IfOk r (λ t. IsValid p) → IfOk r (λ t. IsSizedProgram p) → IfOk r (λ t. (q : PlainProgram) → Accepts 67108864 (bytes_of t) q → q ≡ p)
 text_of_one bytes_of (Ok t) p e v s = λ q a. program_is_one 67108864 (bytes_of t) q p a (accepted_text (bytes_of t) p v s e)
 text_of_one bytes_of (Err f) p e v s = tt
 
+-- bytes that are a program's canonical text are the canonical text of no other
 pub text_alone : {A E : Type 0} (bytes_of : A → List ℕ) (r : Result A E) (p : PlainProgram) → IfOk r (λ t. bytes_of t ≡ canonical p) →
     IfOk r (λ t. IsValid p) → IfOk r (λ t. IsSizedProgram p) → IfOk r (λ t. (q : PlainProgram) → IsValid q → IsSizedProgram q → canonical q ≡ bytes_of t →
     q ≡ p)

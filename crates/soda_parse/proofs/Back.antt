@@ -70,6 +70,7 @@ unfolding outline_of outline_in
 outline_tile p line [] d h = tile_first p line d h
 outline_tile p line (q ∷ qs) d h = outline_tile p (suc line) qs d h
 
+-- the fixed extents of a tile are those that it was written of
 pub fixed_back : (ns : List ℕ) → flat_map fixed_in (map (λ n. Fixed n) ns ++ Open ∷ []) ≡ ns
 fixed_back [] = refl
 fixed_back (n ∷ ns) = ap (λ (ms : List ℕ). n ∷ ms) (fixed_back ns)
@@ -82,6 +83,7 @@ sizes_back : (line : ℕ) (ns : List ℕ) → map (λ (s : Size). s.value) (map 
 sizes_back line [] = refl
 sizes_back line (n ∷ ns) = ap (λ (ms : List ℕ). n ∷ ms) (sizes_back line ns)
 
+-- each of these params has a type that may be
 abbrev pub AreTyped : List PlainParam → Type 0
 AreTyped [] = Unit {0}
 AreTyped (q ∷ qs) = IsTyped q.ty × AreTyped qs
@@ -105,6 +107,7 @@ param_back line q h =
     }) (h line) in
     one ∙ ap (λ (ns : List ℕ). record { name = q.name; ty = q.ty; sizes = ns }) (sizes_back line q.sizes)
 
+-- the params of lines that were written of params are these
 pub params_back : (line : ℕ) (qs : List PlainParam) → AreTyped qs → map param_of (param_lines line qs) ≡ qs
 params_back line [] h = refl
 params_back line (q ∷ qs) h =
@@ -119,6 +122,7 @@ IsBack o p f = (line : ℕ) → meant o (zeros p) (written p line f) ≡ f
 abbrev pub IsTensorBack : Outline → PlainProgram → PlainTensor → Type 0
 IsTensorBack o p t = IsTyped t.ty × (elim t.formula [ None ↦ Unit {0} | Some f ↦ IsBack o p f ])
 
+-- the inputs, locals and outputs of this outline are these tensors, named in order
 abbrev pub AreBack : Outline → PlainProgram → List PlainTensor → Type 0
 AreBack o p [] = Unit {0}
 AreBack o p (t ∷ ts) = IsTensorBack o p t × AreBack o p ts

@@ -58,6 +58,7 @@ fine_line o dims left f ys e g =
       none_second (far_from o f.left (uses_in f.formula)) (far_from o f.left ys) far,
     )
 
+-- where no site has wrong offsets, the cells of each statement's formula are fine
 pub all_fine : (o : Outline) (dims : ℕ) (left : List ℤ) (ss : List PlainStatement) → find (has_wrong_dims o dims) (outline_of ss).sites ≡ None →
     far_from o left (outline_of ss).sites ≡ None → AllFine o dims ss
 unfolding outline_of outline_in

@@ -81,6 +81,7 @@ tensor_total ss =
     (ap (λ (n : ℕ). n + length (flat_map (tensors_in (outline_of ss)) ss)) (length-map (outline_of ss).inputs input_of) ∙
     ap (λ (n : ℕ). length (outline_of ss).inputs + n) (tensors_made (outline_of ss) ss))
 
+-- a text has no more inputs, locals, outputs and params than bytes
 pub few_of_all : (bytes : List ℕ) (ss : List PlainStatement) → AreStatements (tokens_of bytes) ss →
     length (outline_of ss).inputs + length (outline_of ss).defined + length (outline_of ss).params ≤ length bytes
 few_of_all bytes ss are =

@@ -105,6 +105,7 @@ pub record HasBurst (p : PlainProgram) : Type 0 where
   pub most : p.burst ≤ 8192
   pub filled : list_all (fills_burst p.burst) p.tensors ≡ true
 
+-- a burst width that is not refused is within its bounds, and cells fill it
 pub has_burst : (p : PlainProgram) → bad_burst p ≡ None → HasBurst p
 has_burst p e =
     let good : has_good_burst p ≡ true = burst_by p (has_good_burst p) refl e in

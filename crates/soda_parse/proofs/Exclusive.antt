@@ -5,12 +5,9 @@ use Rattle.std.proofs.lemmas.Option.{slice_get_within}
 use Rattle.std.specs.Prelude.{slice_get, Result, Ok, Err, IfOk}
 use Rattle.soda_checks.specs.Outline.{outline_of}
 use Rattle.soda_ir.specs.Program.{PlainProgram}
-use Rattle.soda_parse.specs.Fails.{IfRefused, unread}
+use Rattle.soda_parse.specs.Fails.{IfRefused}
 use Rattle.soda_parse.specs.declared.reading.ParseFail.{ParseFail}
 use Rattle.soda_parse.specs.declared.reading.ParseFail.TheVariants.{Refused, Memory}
-use Rattle.soda_syntax.specs.Fails.{IfRefused as IfUnread}
-use Rattle.soda_syntax.specs.declared.reading.SyntaxFail.{SyntaxFail}
-use Rattle.soda_syntax.specs.declared.reading.SyntaxFail.TheVariants.{Refused as SyntaxRefused, Memory as SyntaxMemory}
 use Rattle.soda_parse.specs.Meaning.{program_by}
 use Rattle.soda_parse.specs.Text.{Accepts, Refuses, too_long, no_ascii, no_syntax, not_valid, statement_refusal}
 use Rattle.soda_parse.specs.declared.refusal.Refusal.{Refusal}
@@ -92,24 +89,22 @@ pub only_one : {A : Type 0} (f : A → PlainProgram) (most : ℕ) (bytes : List 
 only_one f most bytes (Ok p) a = λ q b. program_is_one most bytes q (f p) b a
 only_one f most bytes (Err e) a = tt
 
+-- where the answer is a program, no cause refuses the text
 pub none_refused : {A : Type 0} (f : A → PlainProgram) (most : ℕ) (bytes : List ℕ) (r : Result A ParseFail) → IfOk r (λ p. Accepts most bytes (f p)) →
     IfOk r (λ p. (s : Refusal) → Refuses most bytes s → ⊥)
 none_refused f most bytes (Ok p) a = λ s b. never_both most bytes (f p) s a b
 none_refused f most bytes (Err e) a = tt
 
+-- where the answer is a cause, each cause that refuses the text is this one
 pub only_cause : {A : Type 0} (most : ℕ) (bytes : List ℕ) (r : Result A ParseFail) → IfRefused r (Refuses most bytes) →
     IfRefused r (λ c. (s : Refusal) → Refuses most bytes s → s ≡ c)
 only_cause most bytes (Ok p) a = tt
 only_cause most bytes (Err (Refused c)) a = λ s b. refusal_is_one most bytes s c b a
 only_cause most bytes (Err Memory) a = tt
 
+-- where the answer is a cause, the text is accepted as no program
 pub none_accepted : {A : Type 0} (most : ℕ) (bytes : List ℕ) (r : Result A ParseFail) → IfRefused r (Refuses most bytes) →
     IfRefused r (λ c. (q : PlainProgram) → Accepts most bytes q → ⊥)
 none_accepted most bytes (Ok p) a = tt
 none_accepted most bytes (Err (Refused c)) a = λ q b. never_both most bytes q c b a
 none_accepted most bytes (Err Memory) a = tt
-
-pub syntax_refused : (A B : Type 0) (most : ℕ) (bytes : List ℕ) (fail : SyntaxFail) → length bytes ≤ most → not_ascii bytes ≡ None →
-    IfUnread {A = B} (Err fail) (IsSyntaxError bytes) → IfRefused {A = A} (Err (unread fail)) (Refuses most bytes)
-syntax_refused A B most bytes (SyntaxRefused line) short ascii e = no_syntax short ascii e
-syntax_refused A B most bytes SyntaxMemory short ascii e = tt

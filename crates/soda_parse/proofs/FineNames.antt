@@ -172,6 +172,7 @@ param_named p k q e =
     one_there (names_of p.params p.tensors) k q.name (there_front (map (λ (r : PlainParam). r.name) p.params)
     (map (λ (t : PlainTensor). t.name) p.tensors) k q.name (there_mapped (λ (r : PlainParam). r.name) p.params k q e))
 
+-- each tensor's name is one of a tensor of the outline
 pub are_tensors : (p : PlainProgram) → IsValid p → AreTensors (outline p) p
 are_tensors p v line k h =
     let w : Word = word line (tensor_name p k) in
@@ -203,6 +204,7 @@ tile_many : (ns : List ℕ) → length (map (λ n. Fixed n) ns ++ Open ∷ []) �
 tile_many [] = refl
 tile_many (n ∷ ns) = ap suc (tile_many ns)
 
+-- a tile has one item more than there are fixed extents
 pub dims_are : (p : PlainProgram) → length (tile_of p) ≡ suc (length p.extents)
 dims_are p = tile_many p.extents
 
@@ -240,6 +242,7 @@ pass_uses p v = record {
 mapped_none : {A B : Type 0} (f : A → B) (a : Option A) → a ≡ None → option_map f a ≡ None
 mapped_none f a e = ap (option_map f) e
 
+-- each name in a formula is declared
 pub all_known : (p : PlainProgram) → IsValid p → unknown_name (outline p) ≡ None
 unfolding outline_of outline_in statements_of
 all_known p v =
@@ -251,6 +254,7 @@ unfolding outline_of outline_in statements_of
 dims_by p v =
     sites_none (has_wrong_dims (outline p) (length (tile_of p))) p 6 p.params (pass_dims p v) (tensors_ordered p v) v.sound.parts.params v.sound.parts.uses
 
+-- each left side and cell has as many offsets as the tile has items
 pub dims_fine : (p : PlainProgram) → IsValid p → wrong_dims (outline p) ≡ None
 dims_fine p v = ap (wrong_dims_beside (outline p)) (tile_is p v) ∙ ap (option_map site_line) (dims_by p v)
 
@@ -259,6 +263,7 @@ unfolding outline_of outline_in statements_of
 uses_by p v =
     sites_none (is_wrong_site (outline p)) p 6 p.params (pass_uses p v) (tensors_ordered p v) v.sound.parts.params v.sound.parts.uses
 
+-- each param is used with as many indexes as it has sizes, each below its size
 pub uses_fine : (p : PlainProgram) → IsValid p → param_use (outline p) ≡ None
 uses_fine p v = ap (option_map site_line) (uses_by p v)
 

@@ -34,6 +34,7 @@ none_two test (x ∷ xs) ys e f =
     let here = none_here test x xs e in
     rw here.0 (none_two test xs ys here.1 f)
 
+-- nothing is found in a list where nothing is in its rest, and its first item isn't it
 pub none_first_of : {A : Type 0} (test : A → Bool) (x : A) (xs : List A) → test x ≡ false → find test xs ≡ None → find test (x ∷ xs) ≡ None
 none_first_of test x xs e f = rw e f
 
@@ -50,6 +51,7 @@ value_none test p line k i None h e u = cc
 value_none test p line k i (Some q) h e u =
     none_first_of test (Value (word line q.name) (indexes q.sizes i)) [] (h.values line k i q e (ltb-true i (size q.sizes) u)) refl
 
+-- a test that finds no cell and no value of a program finds nothing in a formula
 pub uses_none : (test : Site → Bool) (p : PlainProgram) (line : ℕ) (f : Formula) → Passes test p → each_use (is_good_cell p) (is_good_place p) f ≡ true →
     find test (uses_in (written p line f)) ≡ None
 uses_none test p line (number n) h u = refl
@@ -89,6 +91,7 @@ unfolding outline_of outline_in
 tensors_none test p line h (no_input d) u = defined_none test p line h d u
 tensors_none test p line h (an_input {ts} n ty more) u = tensors_none test p (suc line) h more u
 
+-- a number that is not 0
 abbrev pub nonzero : ℕ → Bool
 nonzero n = not (n == 0)
 

@@ -128,6 +128,7 @@ reordered (output g ∷ ss) =
     two_before g.name.text (texts (outline_of ss).declared) (texts (map (λ (q : ParamLine). q.name) (outline_of ss).params))
     (map (λ (j : InputLine). j.name.text) (outline_of ss).inputs) (map (λ (d : Defined). d.name.text) (outline_of ss).defined) (reordered ss)
 
+-- names of which none is taken before are pairwise different, and free
 pub free_names : (o : Outline) (ss : List PlainStatement) → taken_behind [] (outline_of ss).declared ≡ None →
     list_all (λ w. is_name w.text) (outline_of ss).declared ≡ true →
     are_free_names (map (λ w. w.text) (map (λ q. q.name) (outline_of ss).params) ++

@@ -46,10 +46,12 @@ pub record KeepsRest (o : Outline) (p : PlainProgram) : Type 0 where
   pub burst : bad_burst p ≡ None
   pub uses : param_use o ≡ None
 
+-- where none of two answers is there, the first is not
 pub none_first : {A : Type 0} (a b : Option A) → or_else a b ≡ None → a ≡ None
 none_first None b e = refl
 none_first (Some a) b e = cc
 
+-- where none of two answers is there, the second is not
 pub none_second : {A : Type 0} (a b : Option A) → or_else a b ≡ None → b ≡ None
 none_second None b e = e
 none_second (Some a) b e = cc
@@ -58,6 +60,7 @@ none_unless : (b : Bool) (r : Refusal) → refusal_if b r ≡ None → b ≡ fal
 none_unless true r e = cc
 none_unless false r e = refl
 
+-- no condition on names and types fails where none refuses
 pub keeps_names : (o : Outline) → names_refusal o ≡ None → KeepsNames o
 unfolding names_refusal
 keeps_names o e =
@@ -77,6 +80,7 @@ keeps_names o e =
       dims = unmapped _ (wrong_dims o) (none_first _ _ g);
     }
 
+-- no condition on the shape fails where none refuses
 pub keeps_shape : (o : Outline) (p : PlainProgram) → shape_refusal o p ≡ None → KeepsShape o p
 unfolding shape_refusal
 keeps_shape o p e =
@@ -90,6 +94,7 @@ keeps_shape o p e =
       tile = unmapped _ (wrong_tile o) (none_first _ _ c);
     }
 
+-- no limit on sizes is passed where none refuses
 pub keeps_sizes : (o : Outline) (p : PlainProgram) → size_refusal o p ≡ None → KeepsSizes o p
 unfolding size_refusal
 keeps_sizes o p e =
@@ -109,6 +114,7 @@ keeps_sizes o p e =
       params = unmapped _ (params_past p) (none_first _ _ g);
     }
 
+-- no limit on counts is passed and no use is wrong where none refuses
 pub keeps_rest : (o : Outline) (p : PlainProgram) → count_refusal p ≡ None → use_refusal o p ≡ None → KeepsRest o p
 unfolding count_refusal use_refusal
 keeps_rest o p e u = record {

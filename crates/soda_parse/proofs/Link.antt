@@ -1,5 +1,5 @@
 -- What the conditions on a text say of the program that it stands for.
-use Rattle.std.proofs.Common.{◌≡◌, Bool, true, false, refl, ℕ, ◌+◌, ◌<◌, ◌≤◌, ◌^◌, List, [], ◌∷◌, map, length, Option, None, sym, ap, ◌∙◌, arith}
+use Rattle.std.proofs.Common.{subst, ◌≡◌, Bool, true, false, refl, ℕ, ◌+◌, ◌<◌, ◌≤◌, ◌^◌, List, [], ◌∷◌, map, length, Option, None, sym, ap, ◌∙◌, arith}
 use Rattle.std.proofs.lemmas.List.{length-map}
 use Rattle.std.specs.Prelude.{find, flat_map, nat_lt}
 use Rattle.std.specs.List.{list_all}
@@ -34,17 +34,21 @@ use Rattle.soda_formula.specs.Statements.{PlainStatement}
 use Rattle.soda_syntax.specs.SyntaxError.{IsSyntax}
 use Rattle.soda_words.specs.Tokens.{tokens_of}
 
+-- a text below 2 ^ 32 bytes has fewer than 2 ^ 32 inputs, locals and outputs
 pub few_tensors : (bytes : List ℕ) (ss : List PlainStatement) → length bytes < 2 ^ 32 → IsSyntax (tokens_of bytes) ss →
     length (outline_of ss).inputs + length (outline_of ss).defined < 2 ^ 32
 few_tensors bytes ss short syn = omega (arith, few_of_all bytes ss syn.statements)
 
+-- a text below 2 ^ 32 bytes has fewer than 2 ^ 32 params
 pub few_params : (bytes : List ℕ) (ss : List PlainStatement) → length bytes < 2 ^ 32 → IsSyntax (tokens_of bytes) ss → length (outline_of ss).params < 2 ^ 32
 few_params bytes ss short syn = omega (arith, few_of_all bytes ss syn.statements)
 
+-- the program of a text below 2 ^ 32 bytes has fewer than 2 ^ 32 tensors
 pub few_made : (bytes : List ℕ) (ss : List PlainStatement) → length bytes < 2 ^ 32 → IsSyntax (tokens_of bytes) ss →
     length (program_by (outline_of ss) ss).tensors < 2 ^ 32
 few_made bytes ss short syn = omega (arith, few_of_all bytes ss syn.statements, tensor_total ss)
 
+-- where no condition on names, shape and sizes refuses, live tensors and reads can be counted
 pub countable : (ss : List PlainStatement) → names_refusal (outline_of ss) ≡ None → shape_refusal (outline_of ss) (program_by (outline_of ss) ss) ≡ None →
     size_refusal (outline_of ss) (program_by (outline_of ss) ss) ≡ None → IsCountable (program_by (outline_of ss) ss)
 countable ss names shape sizes =
@@ -108,6 +112,7 @@ placed_of ss e some x lt =
       | false ↦ λ h. defined_placed p (length o.inputs) o.defined e x (grind (arith, nat_tests, h)) lt
     ] refl
 
+-- a program of statements that no condition refuses is valid
 pub valid : (bytes : List ℕ) (ss : List PlainStatement) → IsSyntax (tokens_of bytes) ss →
     refusal_by (outline_of ss) (program_by (outline_of ss) ss) ≡ None → IsValid (program_by (outline_of ss) ss)
 valid bytes ss syn none =
@@ -172,10 +177,12 @@ valid bytes ss syn none =
       few_reads = (within 0 16384 (read_count p) d.reads).1;
     }
 
+-- the same as `countable`, of an outline and a program that are the statements'
 pub countable_at : (ss : List PlainStatement) (o : Outline) (p : PlainProgram) → o ≡ outline_of ss → p ≡ program_by o ss → names_refusal o ≡ None →
     shape_refusal o p ≡ None → size_refusal o p ≡ None → IsCountable p
 countable_at ss o p e f = rw (f, e) (countable ss)
 
+-- the same as `few_made`, of parts that are the program's
 pub few_made_at : (bytes : List ℕ) (ss : List PlainStatement) (o : Outline) (parts : Parts) → o ≡ outline_of ss → plain parts ≡ program_by o ss →
     length bytes < 2 ^ 32 → IsSyntax (tokens_of bytes) ss → length parts.tensors < 2 ^ 32
 few_made_at bytes ss o parts e f short syn =
@@ -183,10 +190,18 @@ few_made_at bytes ss o parts e f short syn =
     (ap (λ (p : PlainProgram). length p.tensors) f ∙ ap (λ (u : Outline). length (program_by u ss).tensors) e) in
     rw same (few_made bytes ss short syn)
 
-pub valid_at : (bytes : List ℕ) (ss : List PlainStatement) (parts : Parts) → plain parts ≡ program_by (outline_of ss) ss → IsSyntax (tokens_of bytes) ss →
-    refusal_by (outline_of ss) (plain parts) ≡ None → IsValid (plain parts)
-valid_at bytes ss parts e syn none = rw e (valid bytes ss syn (rw e at none))
+-- the same as `valid`, of parts that are the program's
+pub valid_at : (bytes : List ℕ) (ss : List PlainStatement) (o : Outline) (parts : Parts) → o ≡ outline_of ss → plain parts ≡ program_by o ss →
+    IsSyntax (tokens_of bytes) ss → refusal_by o (plain parts) ≡ None → IsValid (plain parts)
+valid_at bytes ss o parts e f syn none =
+    let same : plain parts ≡ program_by (outline_of ss) ss = f ∙ ap (λ (u : Outline). program_by u ss) e in
+    let kept : refusal_by (outline_of ss) (program_by (outline_of ss) ss) ≡ None =
+    sym (ap (λ (u : Outline). refusal_by u (plain parts)) e ∙ ap (refusal_by (outline_of ss)) same) ∙ none in
+    subst IsValid (sym same) (valid bytes ss syn kept)
 
-pub refused_at : (ss : List PlainStatement) (parts : Parts) {r : Option Refusal} → plain parts ≡ program_by (outline_of ss) ss →
-    r ≡ refusal_by (outline_of ss) (plain parts) → statement_refusal ss ≡ r
-refused_at ss parts e f = sym (f ∙ ap (refusal_by (outline_of ss)) e)
+-- what refuses the parts of the program refuses the statements
+pub refused_at : (ss : List PlainStatement) (o : Outline) (parts : Parts) {r : Option Refusal} → o ≡ outline_of ss →
+    plain parts ≡ program_by o ss → r ≡ refusal_by o (plain parts) → statement_refusal ss ≡ r
+refused_at ss o parts e f h =
+    let same : plain parts ≡ program_by (outline_of ss) ss = f ∙ ap (λ (u : Outline). program_by u ss) e in
+    sym (h ∙ (ap (λ (u : Outline). refusal_by u (plain parts)) e ∙ ap (refusal_by (outline_of ss)) same))

@@ -17,12 +17,14 @@ use Rattle.soda_words.proofs.CallerLemmas.{is_word-turned, is_word-itself}
 below_first : (n : ℕ) → cond {A = Option ℕ} (nat_lt 0 (suc n)) (Some 0) None ≡ Some 0
 below_first n = grind (arith, nat_tests)
 
+-- an item that passes stands first
 pub place_first : {A : Type 0} (test : A → Bool) (x : A) (xs : List A) → test x ≡ true → position test (x ∷ xs) ≡ Some 0
 place_first test x xs e = rw e (below_first (length xs))
 
 below_more : (i n : ℕ) → cond (nat_lt (1 + i) (suc n)) (Some (1 + i)) None ≡ option_map suc (cond (nat_lt i n) (Some i) None)
 below_more i n = grind (arith, nat_tests)
 
+-- behind an item that does not pass, places are one further on
 pub place_next : {A : Type 0} (test : A → Bool) (x : A) (xs : List A) → test x ≡ false → position test (x ∷ xs) ≡ option_map suc (position test xs)
 place_next test x xs e = rw e (below_more (position_or_len test xs) (length xs))
 
@@ -32,6 +34,7 @@ place_by test f x xs true e more = place_first (λ y. test (f y)) x xs e ∙ sym
 place_by test f x xs false e more =
     place_next (λ y. test (f y)) x xs e ∙ (ap (option_map suc) more ∙ sym (place_next test (f x) (map f xs) e))
 
+-- a place by a test of images is a place among the images
 pub place_mapped : {A B : Type 0} (test : B → Bool) (f : A → B) (xs : List A) → position (λ y. test (f y)) xs ≡ position test (map f xs)
 place_mapped test f [] = refl
 place_mapped test f (x ∷ xs) = place_by test f x xs (test (f x)) refl (place_mapped test f xs)
@@ -55,6 +58,7 @@ two_by test x xs ys false e more =
     ap (λ (r : Option ℕ). or_else r (option_map (λ k. suc (length xs) + k) (position test ys))) (place_next test x xs e)
     ∙ (shift_more (length xs) (position test xs) (position test ys) ∙ (ap (option_map suc) more ∙ sym (place_next test x (xs ++ ys) e)))
 
+-- a place in the first list, or else in the second behind it, is one in both joined
 pub place_in_two : {A : Type 0} (test : A → Bool) (xs ys : List A) → or_else (position test xs) (option_map (λ k. length xs + k) (position test ys)) ≡
     position test (xs ++ ys)
 place_in_two test [] ys = shift_0 (position test ys)
@@ -70,6 +74,7 @@ abbrev pub Fresh : List (List ℕ) → Type 0
 Fresh [] = Unit {0}
 Fresh (w ∷ ws) = (is_free_name w ≡ true) × (list_any (is_word w) ws ≡ false) × Fresh ws
 
+-- free names are pairwise different
 pub fresh : (ws : List (List ℕ)) → are_free_names ws ≡ true → Fresh ws
 fresh [] h = tt
 fresh (w ∷ ws) h =
@@ -83,10 +88,12 @@ front_none v (u ∷ us) ws e =
     let both = neither_of (is_word v u) (list_any (is_word v) (us ++ ws)) e in
     rw both.0 (front_none v us ws both.1)
 
+-- names of a prefix are pairwise different where all are
 pub fresh_front : (vs ws : List (List ℕ)) → Fresh (vs ++ ws) → Fresh vs
 fresh_front [] ws f = tt
 fresh_front (v ∷ vs) ws f = (f.0, front_none v vs ws f.1, fresh_front vs ws f.2)
 
+-- names behind a prefix are pairwise different where all are
 pub fresh_back : (vs ws : List (List ℕ)) → Fresh (vs ++ ws) → Fresh ws
 fresh_back [] ws f = f
 fresh_back (v ∷ vs) ws f = fresh_back vs ws f.2
@@ -111,11 +118,13 @@ one_there [] k w e = cc
 one_there (v ∷ ws) zero w e = rw (ap (is_word w) (same_Some v w e) ∙ is_word-itself w) refl
 one_there (v ∷ ws) (suc k) w e = or_second (is_word w v) (list_any (is_word w) ws) (one_there ws k w e)
 
+-- what stands at a place has its image at this place
 pub there_mapped : {A B : Type 0} (f : A → B) (xs : List A) (k : ℕ) (x : A) → slice_get xs k ≡ Some x → slice_get (map f xs) k ≡ Some (f x)
 there_mapped f [] k x e = cc
 there_mapped f (y ∷ xs) zero x e = ap (λ z. Some (f z)) (same_Some y x e)
 there_mapped f (y ∷ xs) (suc k) x e = there_mapped f xs k x e
 
+-- what stands at a place stands there with more behind
 pub there_front : {A : Type 0} (xs ys : List A) (k : ℕ) (x : A) → slice_get xs k ≡ Some x → slice_get (xs ++ ys) k ≡ Some x
 there_front [] ys k x e = cc
 there_front (y ∷ xs) ys zero x e = e

@@ -19,7 +19,8 @@ use Rattle.soda_formula.specs.Statements.{PlainStatement, kernel, burst_width, u
 use Rattle.soda_formula.specs.declared.statement.ParamLine.{ParamLine}
 use Rattle.soda_formula.specs.declared.statement.Size.{Size}
 use Rattle.soda_words.specs.Names.{is_name, is_word_byte}
-use Rattle.soda_words.specs.Tokens.{Front, double_front, double_of, first_line, first_word, front_of, is_number, is_white, line_behind, value_behind, placed, sign_or_bad, single_front, symbol_front, tokens_behind, tokens_of, word_token}
+use Rattle.soda_words.specs.Symbols.{double_of}
+use Rattle.soda_words.specs.Tokens.{Front, double_front, first_line, first_word, front_of, is_number, is_white, line_behind, value_behind, placed, sign_or_bad, single_front, symbol_front, tokens_behind, tokens_of, word_token}
 use Rattle.soda_words.specs.declared.symbol.Symbol.{Symbol}
 use Rattle.soda_words.specs.declared.token.Placed.{Placed}
 use Rattle.soda_words.specs.declared.token.Token.{Token}
@@ -122,6 +123,7 @@ IsNamed (iterate l n) = Unit {0}
 IsNamed (border l b) = Unit {0}
 IsNamed (cluster l) = Unit {0}
 
+-- each name that these statements declare is a name
 abbrev pub AreNamed : List PlainStatement → Type 0
 AreNamed [] = Unit {0}
 AreNamed (s ∷ ss) = IsNamed s × AreNamed ss
@@ -145,6 +147,7 @@ named ts s (an_output {ts = head} {us = us} t d i f) h =
     let k = subst AreFine i.is g in
     (subst AreFine i.side.is (fine_right i.bank i.rest k.1)).1.1.0
 
+-- statements of fine tokens declare names
 pub all_named : (ts : List Placed) (ss : List PlainStatement) → AreStatements ts ss → AreFine ts → AreNamed ss
 all_named ts ss no_statement h = tt
 all_named ts ss (statement_before {ts = front} {us = back} {s = s} {ss = rest} one more) h =
@@ -154,6 +157,7 @@ all_named ts ss (statement_before {ts = front} {us = back} {s = s} {ss = rest} o
 pub names_named : (bytes : List ℕ) (ss : List PlainStatement) → AreStatements (tokens_of bytes) ss → AreNamed ss
 names_named bytes ss are = all_named (tokens_of bytes) ss are (tokens_fine 0 1 bytes)
 
+-- the declared words of an outline are names
 pub declared_named : (ss : List PlainStatement) → AreNamed ss → list_all (λ w. is_name w.text) (outline_of ss).declared ≡ true
 unfolding outline_of outline_in
 declared_named [] h = refl

@@ -35,6 +35,7 @@ split (d ∷ ds) (e ∷ es) zero lt = refl
 split (d ∷ ds) [] (suc i) lt = let h = split ds [] i (omega arith) in rw (past_nil i) at h
 split (d ∷ ds) (e ∷ es) (suc i) lt = split ds es i (omega arith)
 
+-- one component more of an offset that is made so far
 pub shifted_more : (made made' offsets left : List ℤ) (i : ℕ) (near : ℤ) → IsShifted made i offsets left → i < length offsets →
     near ≡ get_or offsets i (pos 0) -ℤ slice_index_or left i (pos 0) → nat_le (unsigned_abs near) 32768 ≡ true → made' ≡ made ++ near ∷ [] →
     IsShifted made' (i + 1) offsets left
@@ -46,11 +47,13 @@ shifted_more made made' offsets left i near h lt is small more = record {
       sym (split offsets left i lt)) ∙ h.value);
 }
 
+-- an offset keeps its number of components where the left side is subtracted
 pub shifted_length : (o l : List ℤ) → length (shifted o l) ≡ length o
 shifted_length [] l = refl
 shifted_length (d ∷ ds) [] = ap suc (shifted_length ds [])
 shifted_length (d ∷ ds) (e ∷ es) = ap suc (shifted_length ds es)
 
+-- more components than dimensions are no offset
 pub too_many : (o l : List ℤ) → 4 < length o → [] ≡ offset_or_none (shifted o l)
 too_many o l lt =
     let n : nat_le (length (shifted o l)) 4 ≡ false = grind (arith, nat_tests, shifted_length o l) in rw n refl

@@ -111,6 +111,7 @@ same_test : (cells : ℕ → List ℤ → Bool) (values : ℕ → ℕ → Bool) 
 same_test cells values None offset = refl
 same_test cells values (Some k) offset = refl
 
+-- what a formula of a text names is there: its cells are good, and its places in range
 pub good_uses : (o : Outline) (p : PlainProgram) (dims : ℕ) (left : List ℤ) (t : Term) → Fits o p dims → HasParams o p → FineCells o dims left (uses_in t) →
     find (is_wrong_site o) (uses_in t) ≡ None → each_use (is_good_cell p) (is_good_place p) (formula_of o left t) ≡ true
 good_uses o p dims left (literal n) fits h fine e = refl

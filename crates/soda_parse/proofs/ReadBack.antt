@@ -59,6 +59,7 @@ name_mapped [] k q e = cc
 name_mapped (r ∷ qs) zero q e = ap (λ (s : PlainParam). Some s.name) (same_param r q e)
 name_mapped (r ∷ qs) (suc k) q e = name_mapped qs k q e
 
+-- a param's line is found under its name
 pub param_at : (line : ℕ) (qs : List PlainParam) (k : ℕ) (q : PlainParam) (w : Word) → Fresh (map (λ (r : PlainParam). r.name) qs) →
     slice_get qs k ≡ Some q → w.text ≡ q.name → IsParamAt (param_lines line qs) k q w
 param_at line [] k q w f e n = cc
@@ -88,6 +89,7 @@ two_indexes false line n m i z h =
     let second : i % m < m = omega arith in
     record { below = rw (lt_true (i / m) n first, lt_true (i % m) m second) refl; place = omega (arith, mul_comm (i / m) m) }
 
+-- the indexes of a place are below the sizes, and name this place
 pub indexed : (line : ℕ) (ns : List ℕ) (i : ℕ) → length ns ≤ 2 → i < size ns → IsIndexed (sizes_on line ns) (indexes ns i) i
 indexed line [] i few h = record { below = refl; place = omega arith }
 indexed line (n ∷ []) i few h = one_index line n i h
@@ -131,6 +133,7 @@ pub record IsCellThere (p : PlainProgram) (k : ℕ) (ds : List ℤ) : Type 0 whe
   pub many : length ds ≡ suc (length p.extents)
   pub near : is_near ds ≡ true
 
+-- a good cell is one of a tensor that is there, with an offset that may be
 pub cell_there : (p : PlainProgram) (k : ℕ) (ds : List ℤ) → is_good_cell p k ds ≡ true → IsCellThere p k ds
 cell_there p k ds h =
     let a = both_of (nat_lt k (length p.tensors) && length ds == suc (length p.extents)) (is_near ds) h in

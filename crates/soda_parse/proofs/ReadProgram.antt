@@ -31,21 +31,26 @@ use Rattle.std.proofs.lemmas.Bool.{leb-true}
 abbrev pub outline : PlainProgram → Outline
 outline p = outline_of (statements_of p)
 
+-- a valid program has its inputs first
 pub tensors_ordered : (p : PlainProgram) → IsValid p → AreOrdered p.tensors
 tensors_ordered p v = ordered p.tensors v.sound.ends.inputs_first v.sound.parts.formulas
 
+-- the params of the outline are the program's, from line 6 on
 pub params_are : (p : PlainProgram) → IsValid p → (outline p).params ≡ param_lines 6 p.params
 unfolding outline_of outline_in statements_of
 params_are p v = outline_params p 6 p.params (tensors_ordered p v)
 
+-- the tensors of the outline have the program's names, in order
 pub names_are : (p : PlainProgram) → IsValid p → tensor_names (outline p) ≡ map (λ (t : PlainTensor). t.name) p.tensors
 unfolding outline_of outline_in statements_of
 names_are p v = outline_names p 6 p.params (tensors_ordered p v)
 
+-- the first tile of the outline is the program's
 pub tile_is : (p : PlainProgram) → IsValid p → first_tile (outline p).inputs ≡ Some (tile_of p)
 unfolding outline_of outline_in statements_of
 tile_is p v = outline_tile p 6 p.params (tensors_ordered p v) v.sound.ends.some_input
 
+-- the names of a valid program are pairwise different
 pub names_fresh : (p : PlainProgram) → IsValid p → Fresh (names_of p.params p.tensors)
 names_fresh p v = fresh (names_of p.params p.tensors) v.sound.parts.names
 
@@ -89,6 +94,7 @@ two_sizes p v k q e =
 few_values : (p : PlainProgram) → IsValid p → (k : ℕ) (q : PlainParam) → slice_get p.params k ≡ Some q → size q.sizes ≤ 65536
 few_values p v k q e = omega (arith, count_there p.params k q e, v.sound.limits.few_values)
 
+-- the outline of a valid program's statements knows each name
 pub knows : (p : PlainProgram) → IsValid p → Knows (outline p) p
 knows p v = record {
   tensors = numbered p v;
@@ -149,6 +155,7 @@ by_parts : (p : PlainProgram) → program_by (outline p) (statements_of p) ≡
 unfolding outline_of outline_in statements_of
 by_parts p = refl
 
+-- the statements of a valid program stand for it
 pub program_back : (p : PlainProgram) → IsValid p → IsSizedProgram p → program_by (outline p) (statements_of p) ≡ p
 program_back p v s =
     let back : AreBack (outline p) p p.tensors = all_back (outline p) p p.tensors (knows p v) s.tensors v.sound.parts.uses in

@@ -11,6 +11,7 @@ same_signs false = refl
 one_type : (a : IntType) → is_same_type a a ≡ true
 one_type a = rw (same_signs a.signed, eq-eqb a.bits a.bits refl) refl
 
+-- where both of two hold, each does
 pub both_of : (a b : Bool) → (a && b) ≡ true → (a ≡ true) × (b ≡ true)
 both_of true b h = (refl, h)
 both_of false b h = cc
@@ -29,6 +30,7 @@ one_list : (ts : List IntType) → are_same_types ts ts ≡ true
 one_list [] = refl
 one_list (t ∷ ts) = rw (one_type t, one_list ts) refl
 
+-- lists of the same types are equal
 pub equal_lists : (ts us : List IntType) → are_same_types ts us ≡ true → ts ≡ us
 equal_lists [] [] h = refl
 equal_lists [] (u ∷ us) h = cc

@@ -3,6 +3,7 @@ use Rattle.std.proofs.Common.{◌≡◌, ℕ, Bool, Option, ap, ◌∙◌}
 use Rattle.soda_parse.specs.Text.{shape_by}
 use Rattle.soda_parse.specs.declared.refusal.Refusal.{Refusal}
 
+-- a refusal of the shape by equal findings is the same
 pub shaped : (r : Option Refusal) (a b : Option ℕ) (c d e f : Bool) (g h : Option ℕ) → r ≡ shape_by a c e g → a ≡ b → c ≡ d → e ≡ f → g ≡ h →
     r ≡ shape_by b d f h
 shaped r a b c d e f g h is p q s t =

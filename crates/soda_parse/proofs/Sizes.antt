@@ -24,9 +24,11 @@ within_by l m n true is e =
     let both = both_of (nat_le l n) (nat_le n m) is in (grind (arith, nat_tests, both.0), grind (arith, nat_tests, both.1))
 within_by l m n false is e = cc
 
+-- a number that is not told is within its bounds
 pub within : (l m n : ℕ) → unless_within l m n ≡ None → (l ≤ n) × (n ≤ m)
 within l m n e = within_by l m n (nat_le l n && nat_le n m) refl e
 
+-- a product none of whose partial products passes the most is at most this
 pub product_small : (n : ℕ) (ks : List ℕ) → n ≤ 16777216 → first_past 16777216 (partial_products n ks) ≡ None → n * size ks ≤ 16777216
 product_small n [] le e = omega (arith, mul-one n)
 product_small n (k ∷ ks) le e =
@@ -47,6 +49,7 @@ pub record HasAll (o : Outline) : Type 0 where
 not_zero : (n : ℕ) → not (n == 0) ≡ true → 0 < n
 not_zero n e = grind (arith, nat_tests, e)
 
+-- where nothing is missing, each statement that must be is there
 pub has_all : (o : Outline) → missing o ≡ None → HasAll o
 has_all o e =
     let a = none_second (need_unless (list_any (is_kind Kernel) o.settings) NeedKernel) _ e in

@@ -59,6 +59,7 @@ few_counted ts small =
 few_open : (ts : List Placed) → ((j : ℕ) → IsLarge (take j ts) → ⊥) → peak 0 ts ≤ 64
 few_open ts small = peak_most 64 0 ts (λ j. let no : 64 < open_brackets_from 0 (take j ts) → ⊥ = λ lt. small j (inl lt) in omega (arith, no))
 
+-- a formula of a text none of whose prefixes is too large is small as the canonical text writes it
 pub small_formula : (o : Outline) (p : PlainProgram) (left : List ℤ) (t : Term) (ts : List Placed) → p.params ≡ map param_of o.params →
     find (is_wrong_site o) (uses_in t) ≡ None → IsFormula ts t → ((j : ℕ) → IsLarge (take j ts) → ⊥) →
     (nat_le (token_count p (formula_of o left t)) 1500 && nat_le (most_open p (formula_of o left t)) 64) ≡ true
@@ -149,6 +150,7 @@ all_small o p before ts done ss same are (statement_before {ts = one} {us = othe
     all_of_both (is_small p) (tensors_in o s) (flat_map (tensors_in o) rest) (one_small o p before one others done s same are is small both.0)
     (all_small o p (before ++ one) others (done ++ s ∷ []) rest same grown more (subst NoneLarge order small) both.1)
 
+-- each tensor of a text's program is small as the canonical text writes it
 pub small_tensors : (o : Outline) (p : PlainProgram) (bytes : List ℕ) (ss : List PlainStatement) → p.params ≡ map param_of o.params →
     find (is_wrong_site o) (outline_of ss).sites ≡ None → IsSyntax (tokens_of bytes) ss → list_all (is_small p) (flat_map (tensors_in o) ss) ≡ true
 small_tensors o p bytes ss same none syn =

@@ -50,9 +50,11 @@ tile_of p = map (λ n. Fixed n) p.extents ++ Open ∷ []
 abbrev pub zeros : PlainProgram → List ℤ
 zeros p = map (λ n. pos 0) p.extents ++ pos 0 ∷ []
 
+-- an input on this line
 abbrev pub input_on : PlainProgram → ℕ → IntType → List ℕ → InputLine
 input_on p line ty name = record { ty = word line (type_text ty); name = word line name; tile = Some (tile_of p) }
 
+-- a local or output on this line, with zeros on its left side
 abbrev pub formula_on : PlainProgram → ℕ → IntType → List ℕ → Formula → PlainFormulaLine
 formula_on p line ty name f = record { ty = word line (type_text ty); name = word line name; left = zeros p; formula = written p line f }
 

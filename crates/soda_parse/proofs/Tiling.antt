@@ -18,10 +18,12 @@ none_here {A} test x xs e =
     elim (test x) as (λ t. (t ≡ test x) → cond t (Some x) (find test xs) ≡ None →
     (t ≡ false) × (find test xs ≡ None)) [ true ↦ λ h f. cc | false ↦ λ h f. (refl, f) ] refl e
 
+-- what is not false is true
 pub false_not : (b : Bool) → not b ≡ false → b ≡ true
 false_not true e = refl
 false_not false e = cc
 
+-- the first tile is one that may be, where this input's is not wrong
 pub tile_here : (first tile : List Extent) (i : InputLine) (t u : Option (List Extent)) → i.tile ≡ t → (u ≡ Some tile → is_tile tile ≡ true) →
     or_else t u ≡ Some tile → has_wrong_tile first i ≡ false → is_tile tile ≡ true
 tile_here first tile i None u is more e f = more e
@@ -64,6 +66,7 @@ untiled : (inputs : List InputLine) → option_map (λ i. i.name.line) (slice_ge
 untiled [] e some = omega arith
 untiled (i ∷ is) e some = cc
 
+-- where there is no image, there is nothing
 pub unmapped : {A B : Type 0} (f : A → B) (a : Option A) → option_map f a ≡ None → a ≡ None
 unmapped f None e = refl
 unmapped f (Some a) e = cc
@@ -83,5 +86,6 @@ tiled_by o (Some tile) is e some =
       there = rw items is;
     }
 
+-- where no tile is wrong and there is an input, there is a first tile that may be
 pub tiled : (o : Outline) → wrong_tile o ≡ None → 0 < length o.inputs → IsTiled o
 tiled o e some = tiled_by o (first_tile o.inputs) refl e some

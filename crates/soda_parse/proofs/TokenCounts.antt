@@ -52,6 +52,7 @@ abbrev pub peak : ℕ → List Placed → ℕ
 peak k [] = k
 peak k (t ∷ ts) = max k (peak (open_behind k t.token) ts)
 
+-- at least as many brackets are open at once as are open before
 pub peak_least : (k : ℕ) (ts : List Placed) → k ≤ peak k ts
 peak_least k [] = omega arith
 peak_least k (t ∷ ts) = omega arith
@@ -61,9 +62,11 @@ pub record IsPassing (s : Symbol) : Type 0 where
   pub level : (k : ℕ) → open_behind k (Sign s) ≡ k
   pub behind : place_behind behind_name (Sign s) ≡ outside
 
+-- a symbol is no bracket where it changes neither how many are open nor how tokens count
 pub passes : (s : Symbol) → ((k : ℕ) → open_behind k (Sign s) ≡ k) → place_behind behind_name (Sign s) ≡ outside → IsPassing s
 passes s h e = record { level = h; behind = e }
 
+-- behind a symbol that is no bracket, what comes counts as it does elsewhere
 pub passing_closed : (line : ℕ) (s : Symbol) (rest : List Placed) → IsPassing s → Closed (symbol_on line s ∷ rest)
 passing_closed line s rest pass = ap (λ (q : Place). 1 + counted_tokens_from q rest) pass.behind
 
@@ -72,15 +75,19 @@ pub reserved_counts : (line : ℕ) (text : List ℕ) (ts : List Placed) → is_r
     counted_tokens_from outside (name_on line text ∷ ts) ≡ 1 + counted_tokens_from outside ts
 reserved_counts line text ts e = ap (λ (b : Bool). 1 + counted_tokens_from (if b then outside else behind_name) ts) e
 
+-- behind a name that is not reserved, offsets may follow
 pub free_counts : (line : ℕ) (text : List ℕ) (ts : List Placed) → is_reserved text ≡ false →
     counted_tokens_from outside (name_on line text ∷ ts) ≡ 1 + counted_tokens_from behind_name ts
 free_counts line text ts e = ap (λ (b : Bool). 1 + counted_tokens_from (if b then outside else behind_name) ts) e
 
+-- 1, or 0 for none
 abbrev pub one_if_some : ℕ → ℕ
 one_if_some n = if n == 0 then 0 else 1
 
+-- a comma is no bracket
 pub comma_passes : IsPassing Comma
 comma_passes = passes Comma (λ k. refl) refl
 
+-- the words of casts are reserved
 pub cast_reserved : (text : List ℕ) → is_cast_word text ≡ true → is_reserved text ≡ true
 cast_reserved text e = rw e refl

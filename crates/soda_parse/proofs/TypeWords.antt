@@ -41,6 +41,7 @@ pub type_known : (t : IntType) → IsType t → type_of (type_text t) ≡ Some t
 unfolding type_text
 type_known t h = type_back t.signed t.bits (omega (arith, h.some)) (λ e. h.sign (sign_of t.signed e)) h.most
 
+-- the word of a type that may be stands for it
 pub typed : (t : IntType) → IsType t → IsTyped t
 typed t h line = ap (λ (o : Option IntType). unwrap_or o int32) (type_known t h)
 

@@ -57,6 +57,7 @@ keeps_both o left xs ys h k zs =
     rw (append_assoc xs ys zs) (h (ys ++ zs) ∙ (ap (λ (f : Option ℕ). or_else (far_from o left xs) f) (k zs) ∙
     (or_assoc (far_from o left xs) (far_from o left ys) (far_from o left zs) ∙ ap (λ (f : Option ℕ). or_else f (far_from o left zs)) (sym (h ys)))))
 
+-- the sites of a formula leave the left side as it is
 pub far_uses : (o : Outline) (left : List ℤ) (t : Term) → Keeps o left (uses_in t)
 far_uses o left (literal n) ys = refl
 far_uses o left (cell t offsets) ys =
@@ -69,6 +70,7 @@ far_uses o left (choice c a b) ys =
     (far_uses o left b)) ys
 far_uses o left (cast t a) ys = far_uses o left a ys
 
+-- the cells of the first of two parts are fine where all are
 pub fine_first : (o : Outline) (dims : ℕ) (left : List ℤ) (a : Term) (ys : List Site) → FineCells o dims left (uses_in a ++ ys) →
     FineCells o dims left (uses_in a)
 fine_first o dims left a ys f = record {
@@ -76,6 +78,7 @@ fine_first o dims left a ys f = record {
   near = none_first (far_from o left (uses_in a)) (far_from o left ys) (sym (far_uses o left a ys) ∙ f.near);
 }
 
+-- the cells of the second of two parts are fine where all are
 pub fine_second : (o : Outline) (dims : ℕ) (left : List ℤ) (a : Term) (ys : List Site) → FineCells o dims left (uses_in a ++ ys) → FineCells o dims left ys
 fine_second o dims left a ys f = record {
   counted = (none_in_both (has_wrong_dims o dims) (uses_in a) ys f.counted).1;
@@ -143,6 +146,7 @@ far_by : (o : Outline) (left : List ℤ) (w : Word) (offsets : List ℤ) → is_
     first_past 32768 (site_magnitudes o left (Cell w offsets)) ≡ None → first_past 32768 (map unsigned_abs (shifted offsets left)) ≡ None
 far_by o left w offsets t e = rw t at e
 
+-- a cell whose offsets are fine is good
 pub good_read : (o : Outline) (p : PlainProgram) (dims : ℕ) (left : List ℤ) (w : Word) (offsets : List ℤ) (n : Option ℕ) → tensor_number o w ≡ n →
     Fits o p dims → FineCells o dims left (Cell w offsets ∷ []) → every (is_good_cell p) (cell_formula n (offset_or_none (shifted offsets left))) ≡ true
 good_read o p dims left w offsets None is fits fine = refl
@@ -161,6 +165,7 @@ good_read o p dims left w offsets (Some k) is fits fine =
     eq-eqb (length (shifted offsets left)) (suc (length p.extents)) (many ∙ fits.extents) in
     rw (stays, within, dimmed, near) refl
 
+-- the cells of a formula whose offsets are fine are good
 pub good_cells : (o : Outline) (p : PlainProgram) (dims : ℕ) (left : List ℤ) (t : Term) → Fits o p dims → FineCells o dims left (uses_in t) →
     every (is_good_cell p) (formula_of o left t) ≡ true
 good_cells o p dims left (literal n) fits fine = refl

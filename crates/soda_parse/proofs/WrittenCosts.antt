@@ -34,17 +34,20 @@ pub record Costs (n m : ℕ) (ts : List Placed) : Type 0 where
   pub counts : (rest : List Placed) → Closed rest → counted_tokens_from outside (ts ++ rest) ≤ n + counted_tokens_from outside rest
   pub opens : (k : ℕ) (rest : List Placed) → peak k (ts ++ rest) ≤ max (m + k) (peak k rest)
 
+-- the same with looser bounds
 pub costs_more : (n m a b : ℕ) (ts : List Placed) → Costs n m ts → n ≤ a → m ≤ b → Costs a b ts
 costs_more n m a b ts t le most = record {
   counts = λ rest closed. omega (arith, t.counts rest closed);
   opens = λ k rest. omega (arith, t.opens k rest);
 }
 
+-- a symbol that is no bracket opens none
 pub passing_peak : (line : ℕ) (s : Symbol) (k : ℕ) (rest : List Placed) → IsPassing s → peak k (symbol_on line s ∷ rest) ≤ peak k rest
 passing_peak line s k rest pass =
     let same : peak (open_behind k (Sign s)) rest ≡ peak k rest = ap (λ (n : ℕ). peak n rest) (pass.level k) in
     omega (arith, peak_least k rest)
 
+-- two parts with a symbol between them
 pub costs_joined : (n m a b line : ℕ) (s : Symbol) (ts us : List Placed) → IsPassing s → Costs n m ts → Costs a b us →
     Costs (n + 1 + a) (max m b) (ts ++ symbol_on line s ∷ us)
 costs_joined n m a b line s ts us pass t u = record {
@@ -61,6 +64,7 @@ costs_joined n m a b line s ts us pass t u = record {
   ));
 }
 
+-- a part in brackets
 pub costs_round : (n m opened closed : ℕ) (ts : List Placed) → Costs n m ts →
     Costs (n + 2) (m + 1) (symbol_on opened OpenRound ∷ (ts ++ symbol_on closed CloseRound ∷ []))
 costs_round n m opened closed ts t = record {
@@ -69,12 +73,14 @@ costs_round n m opened closed ts t = record {
       rw (append_assoc ts (symbol_on closed CloseRound ∷ []) rest) (omega (arith, same, t.opens (suc k) (symbol_on closed CloseRound ∷ rest)));
 }
 
+-- a symbol before a part
 pub costs_sign : (n m line : ℕ) (s : Symbol) (ts : List Placed) → IsPassing s → Costs n m ts → Costs (1 + n) m (symbol_on line s ∷ ts)
 costs_sign n m line s ts pass t = record {
   counts = λ rest closed. omega (arith, t.counts rest closed);
   opens = λ k rest. omega (arith, t.opens k rest, passing_peak line s k (ts ++ rest) pass);
 }
 
+-- a reserved word before a part
 pub costs_named : (n m line : ℕ) (text : List ℕ) (ts : List Placed) → is_reserved text ≡ true → Costs n m ts → Costs (1 + n) m (name_on line text ∷ ts)
 costs_named n m line text ts e t = record {
   counts = λ rest closed. omega (arith, reserved_counts line text (ts ++ rest) e, t.counts rest closed);
@@ -87,10 +93,12 @@ pub component_counts : (ts : List Placed) (d : ℤ) (rest : List Placed) → IsC
 component_counts ts d rest (ahead line n) = omega arith
 component_counts ts d rest (back minus line n) = omega arith
 
+-- a component opens no bracket
 pub component_peak : (ts : List Placed) (d : ℤ) (k : ℕ) (rest : List Placed) → IsComponent ts d → peak k (ts ++ rest) ≤ peak k rest
 component_peak ts d k rest (ahead line n) = omega (arith, peak_least k rest)
 component_peak ts d k rest (back minus line n) = omega (arith, peak_least k rest)
 
+-- components count with the commas between them
 pub components_count : (ts : List Placed) (ds : List ℤ) (rest : List Placed) → AreParted IsComponent ts ds →
     suc (counted_tokens_from in_offsets (ts ++ rest)) ≤ 2 * length ds + counted_tokens_from in_offsets rest
 components_count ts ds rest (last_item {ts = us} {a = d} item) = omega (arith, component_counts us d rest item)
@@ -101,6 +109,7 @@ components_count ts ds rest (item_before {ts = us} {us = vs} {a = d} {others = e
       components_count vs es rest more,
     ))
 
+-- components open no bracket
 pub components_peak : (ts : List Placed) (ds : List ℤ) (k : ℕ) (rest : List Placed) → AreParted IsComponent ts ds → peak k (ts ++ rest) ≤ peak k rest
 components_peak ts ds k rest (last_item {ts = us} {a = d} item) = component_peak us d k rest item
 components_peak ts ds k rest (item_before {ts = us} {us = vs} {a = d} {others = es} line item more) =
@@ -111,6 +120,7 @@ components_peak ts ds k rest (item_before {ts = us} {us = vs} {a = d} {others = 
       peak_least k rest,
     ))
 
+-- a cell, its offsets in brackets
 pub costs_round_cell : (line opened closed : ℕ) (text : List ℕ) (ds : List ℤ) (inside : List Placed) → is_reserved text ≡ false →
     AreParted IsComponent inside ds →
     Costs (2 + 2 * length ds) 1 (name_on line text ∷ symbol_on opened OpenRound ∷ (inside ++ symbol_on closed CloseRound ∷ []))
@@ -128,22 +138,26 @@ costs_round_cell line opened closed text ds inside e are = record {
       ));
 }
 
+-- a cell
 pub costs_cell : (line : ℕ) (text : List ℕ) (ts : List Placed) (ds : List ℤ) → is_reserved text ≡ false → AreOffsets ts ds →
     Costs (2 + 2 * length ds) 1 (name_on line text ∷ ts)
 costs_cell line text ts ds e are =
     subst (λ (us : List Placed). Costs (2 + 2 * length ds) 1 (name_on line text ∷ us)) (sym are.is)
     (costs_round_cell line are.opened are.closed text ds are.inside e are.item)
 
+-- each index counts as three tokens
 pub indexes_count : (ts : List Placed) (ks : List ℕ) (rest : List Placed) → AreIndexes ts ks →
     counted_tokens_from outside (ts ++ rest) ≤ 3 * length ks + counted_tokens_from outside rest
 indexes_count ts ks rest no_index = omega arith
 indexes_count ts ks rest (index_before {ts = us} {indexes = js} opened line n closed more) = omega (arith, indexes_count us js rest more)
 
+-- indexes behind a name count as they do elsewhere
 pub named_count : (ts : List Placed) (ks : List ℕ) (rest : List Placed) → Closed rest → AreIndexes ts ks →
     counted_tokens_from behind_name (ts ++ rest) ≤ 3 * length ks + counted_tokens_from outside rest
 named_count ts ks rest closed no_index = omega arith
 named_count ts ks rest closed (index_before {ts = us} {indexes = js} opened line n shut more) = omega (arith, indexes_count us js rest more)
 
+-- indexes open one bracket at a time
 pub indexes_peak : (ts : List Placed) (ks : List ℕ) (k : ℕ) (rest : List Placed) → AreIndexes ts ks → peak k (ts ++ rest) ≤ max (1 + k) (peak k rest)
 indexes_peak ts ks k rest no_index = omega arith
 indexes_peak ts ks k rest (index_before {ts = us} {indexes = js} opened line n closed more) =
@@ -151,6 +165,7 @@ indexes_peak ts ks k rest (index_before {ts = us} {indexes = js} opened line n c
     let same : peak (suc k - 1) (us ++ rest) ≡ peak k (us ++ rest) = ap (λ (i : ℕ). peak i (us ++ rest)) less in
     omega (arith, same, indexes_peak us js k rest more)
 
+-- indexes open one bracket, if there are any
 pub indexes_open : (ts : List Placed) (ks : List ℕ) (k : ℕ) (rest : List Placed) → AreIndexes ts ks →
     peak k (ts ++ rest) ≤ max (one_if_some (length ks) + k) (peak k rest)
 indexes_open ts ks k rest no_index = omega arith
@@ -158,6 +173,7 @@ indexes_open ts ks k rest (index_before {ts = us} {indexes = js} opened line n c
     let one : one_if_some (suc (length js)) ≡ 1 = grind (arith, nat_tests) in
     omega (arith, one, indexes_peak _ (n ∷ js) k rest (index_before opened line n closed more))
 
+-- a param's value, with its indexes
 pub costs_value : (line : ℕ) (text : List ℕ) (ts : List Placed) (ks : List ℕ) → is_reserved text ≡ false → AreIndexes ts ks →
     Costs (1 + 3 * length ks) (one_if_some (length ks)) (name_on line text ∷ ts)
 costs_value line text ts ks e are = record {

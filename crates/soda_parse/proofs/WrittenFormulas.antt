@@ -35,6 +35,7 @@ use Rattle.soda_parse.proofs.Statements.{word, written, written_value}
 abbrev pub on : ℕ → List Token → List Placed
 on line ts = map (on_line line) ts
 
+-- tokens on a line are those of both parts on it
 pub on_both : (line : ℕ) (ts us : List Token) → on line (ts ++ us) ≡ on line ts ++ on line us
 on_both line [] us = refl
 on_both line (t ∷ ts) us = ap (λ (ps : List Placed). on_line line t ∷ ps) (on_both line ts us)
@@ -164,10 +165,12 @@ components : (line : ℕ) (ds : List ℤ) → AreItems IsComponent line (map com
 components line [] = tt
 components line (d ∷ ds) = (component line d, components line ds)
 
+-- written components are offsets
 pub offsets : (line : ℕ) (ds : List ℤ) (n : ℕ) → length ds ≡ suc n → AreOffsets (on line (listed_tokens (map component_tokens ds))) ds
 offsets line [] n e = absurd (omega arith)
 offsets line (d ∷ ds) n e = in_round IsComponent line (component_tokens d) (map component_tokens ds) d ds (component line d) (components line ds)
 
+-- written indexes are indexes
 pub numbers : (line : ℕ) (is : List ℕ) → AreIndexes (on line (index_tokens is)) is
 numbers line [] = no_index
 numbers line (i ∷ is) = index_before line line i line (numbers line is)
@@ -236,6 +239,7 @@ formula_term p line (cast t a) h u s =
     (cast_term (word line (type_text t)) (written p line a))) (sym (one_inside line (formula_tokens p a)))
     (a_cast (word line (type_text t)) line line (cast_word t s.0) (loosen (level_of a) 0 (omega arith) (formula_term p line a h u s.1)))
 
+-- the written tokens of a formula are this formula
 pub is_formula : (p : PlainProgram) (line : ℕ) (f : Formula) → IsFree p → each_use (is_good_cell p) (is_good_place p) f ≡ true → IsSized f →
     IsFormula (on line (formula_tokens p f)) (written p line f)
 is_formula p line f h u s = loosen (level_of f) 0 (omega arith) (formula_term p line f h u s)

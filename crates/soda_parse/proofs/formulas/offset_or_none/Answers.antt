@@ -3,8 +3,8 @@ use Rattle.std.proofs.lemmas.Int.{ints, to_z-of_z}
 use Rattle.soda_parse.proofs.Offsets.{shifted_more, too_many}
 use Rattle.soda_parse.proofs.formulas.offset_or_none.Goals as goal
 
-pub returns-then-offsets-gt4 : goal.returns-then-offsets-gt4
-returns-then-offsets-gt4 c = c.new-offset.ensures ∙ too_many c.args.offsets.now c.args.left.now c.if-offsets-gt4.true
+pub returns-then-offsets-gt-MOST_DIMS : goal.returns-then-offsets-gt-MOST_DIMS
+returns-then-offsets-gt-MOST_DIMS c = c.new-offset.ensures ∙ too_many c.args.offsets.now c.args.left.now c.if-offsets-gt-MOST_DIMS.true
 
 pub loop-i-preserved : goal.loop-i-preserved
 loop-i-preserved c =
