@@ -5,9 +5,12 @@ use Rattle.std.proofs.lemmas.Option.{slice_get_within}
 use Rattle.std.specs.Prelude.{slice_get, Result, Ok, Err, IfOk}
 use Rattle.soda_checks.specs.Outline.{outline_of}
 use Rattle.soda_ir.specs.Program.{PlainProgram}
-use Rattle.soda_parse.specs.Fails.{IfRefused}
+use Rattle.soda_parse.specs.Fails.{IfRefused, unread}
 use Rattle.soda_parse.specs.declared.reading.ParseFail.{ParseFail}
 use Rattle.soda_parse.specs.declared.reading.ParseFail.TheVariants.{Refused, Memory}
+use Rattle.soda_syntax.specs.Fails.{IfRefused as IfUnread}
+use Rattle.soda_syntax.specs.declared.reading.SyntaxFail.{SyntaxFail}
+use Rattle.soda_syntax.specs.declared.reading.SyntaxFail.TheVariants.{Refused as SyntaxRefused, Memory as SyntaxMemory}
 use Rattle.soda_parse.specs.Meaning.{program_by}
 use Rattle.soda_parse.specs.Text.{Accepts, Refuses, too_long, no_ascii, no_syntax, not_valid, statement_refusal}
 use Rattle.soda_parse.specs.declared.refusal.Refusal.{Refusal}
@@ -108,3 +111,9 @@ pub none_accepted : {A : Type 0} (most : ℕ) (bytes : List ℕ) (r : Result A P
 none_accepted most bytes (Ok p) a = tt
 none_accepted most bytes (Err (Refused c)) a = λ q b. never_both most bytes q c b a
 none_accepted most bytes (Err Memory) a = tt
+
+-- a text whose statements were not read is refused for its syntax
+pub syntax_refused : (A B : Type 0) (most : ℕ) (bytes : List ℕ) (fail : SyntaxFail) → length bytes ≤ most → not_ascii bytes ≡ None →
+    IfUnread {A = B} (Err fail) (IsSyntaxError bytes) → IfRefused {A = A} (Err (unread fail)) (Refuses most bytes)
+syntax_refused A B most bytes (SyntaxRefused line) short ascii e = no_syntax short ascii e
+syntax_refused A B most bytes SyntaxMemory short ascii e = tt
