@@ -49,6 +49,9 @@ fn report(rt: &impl Runtime, alloc: Global, words: &[String]) -> Result<()> {
     let widths = sum_of_widths(&net);
     let storage = storage(&net, &delays);
     let checked = check(&net, &delays, &flow);
+    drop(flow);
+    drop(delays);
+    drop(net);
     println!(rt; "reads {reads} widths {widths} storage {storage} checked {checked}")?;
     Ok(())
 }

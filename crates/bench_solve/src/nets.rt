@@ -5,6 +5,7 @@ ghost use Rattle.delay_net.specs.Shape.{IsWidth};
 ghost use Rattle.bench_solve.specs.Limits.{most_each};
 ghost use Rattle.bench_solve.specs.Made.{IsReadBelow};
 
+use crate::limits::FARTHEST;
 use delay_net::{Net, NoMemory, Read};
 use std::alloc::Global;
 
@@ -54,7 +55,7 @@ fn read(kind: Kind, reader: u32, place: u32, of: u32, offset: u32) -> Read
         Kind::Random => Read {
             reader,
             of: of % reader,
-            offset: (offset % 2097153) as i64 - 1048576,
+            offset: (offset % (2 * FARTHEST + 1)) as i64 - FARTHEST as i64,
         },
     }
 }

@@ -1,5 +1,6 @@
 -- The certificate to begin with, the residual graph's making, and a bound on values.
 use Rattle.std.proofs.Common.{◌≡◌, ℕ, zero, suc, ◌+◌, ◌*◌, ◌^◌, ◌<◌, ◌≤◌, Bool, true, false, cond, eqb, ◌||◌, List, [], ◌∷◌, ◌++◌, length, slice_index, get_or, set, take, drop, refl, subst, sym, ◌∙◌, ap, arith, ⊎_elim, pos, negsuc, ℤ, ◌-ℤ◌, ◌≤ℤ◌, ◌<ℤ◌, get_or-set_same, get_or-set_other}
+use Rattle.std.proofs.Math.Bool.{or-true, or-false}
 use Rattle.std.proofs.lemmas.Int.{ints}
 use Rattle.std.proofs.lemmas.Bool.{cases_eq, false≢true}
 use Rattle.std.proofs.lemmas.Bool.Decides.{nat_tests}
@@ -66,14 +67,6 @@ amounts_more weights reads amounts i x t d size lt amount before =
     add-one-of : i + 1 ≡ suc i
     add-one-of = omega arith
 
-or_true : (b : Bool) → (b || true) ≡ true
-or_true true = refl
-or_true false = refl
-
-or_false : (b : Bool) → (b || false) ≡ b
-or_false true = refl
-or_false false = refl
-
 pub marks_more : (reads : List Read) (met : List Bool) (i t : ℕ) (d : Read) → i < length reads → (get_or reads i d).of < length met
     → get_or met t false ≡ is_read (take i reads) t → get_or (set met (get_or reads i d).of true) t false ≡ is_read (take (i + 1) reads) t
 marks_more reads met i t d lt in_table before =
@@ -81,11 +74,11 @@ marks_more reads met i t d lt in_table before =
     ⊎_elim
     (λ is.
     let here : eqb of t ≡ true = grind (arith, nat_tests) in
-    ap (λ u. get_or (set met of true) u false) (sym is) ∙ get_or-set_same met of true false in_table ∙ sym (or_true (is_read (take i reads) t))
+    ap (λ u. get_or (set met of true) u false) (sym is) ∙ get_or-set_same met of true false in_table ∙ sym (or-true (is_read (take i reads) t))
     ∙ sym (ap (λ b. is_read (take i reads) t || b) here) ∙ sym (list_any_more (λ r. eqb r.of t) reads i d lt))
     (λ ne.
     let other : eqb of t ≡ false = grind (arith, nat_tests) in
-    get_or-set_other met of t true false (λ e. ne (sym e)) ∙ before ∙ sym (or_false (is_read (take i reads) t))
+    get_or-set_other met of t true false (λ e. ne (sym e)) ∙ before ∙ sym (or-false (is_read (take i reads) t))
     ∙ sym (ap (λ b. is_read (take i reads) t || b) other) ∙ sym (list_any_more (λ r. eqb r.of t) reads i d lt))
     (cases_eq of t)
 

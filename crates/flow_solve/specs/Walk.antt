@@ -1,5 +1,5 @@
 -- Walks in a graph whose arcs have lengths. A walk is a list of arc numbers.
-use Rattle.std.specs.Prelude.{◌≡◌, ◌≢◌, slice_index, ℕ, ◌<◌, ◌≤◌, ◌^◌, ℤ, pos, neg_ℤ, ◌+ℤ◌, ◌<ℤ◌, ◌≤ℤ◌, List, [], ◌∷◌, length}
+use Rattle.std.specs.Prelude.{◌≡◌, ◌≢◌, slice_index, ℕ, ◌<◌, ◌≤◌, ℤ, pos, neg_ℤ, ◌+ℤ◌, ◌<ℤ◌, ◌≤ℤ◌, List, [], ◌∷◌, length}
 use Rattle.std.specs.List.{All, slice_index_or}
 use Rattle.flow_solve.specs.Limits.{most_nodes, most_arcs, most_arc_length, most_length}
 use Rattle.flow_solve.specs.declared.arc.Arc.{Arc}

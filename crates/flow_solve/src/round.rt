@@ -1,4 +1,4 @@
-ghost use Rattle.std.specs.Prelude.{◌≡◌, ℕ, ◌<◌, ◌^◌, pos, neg_ℤ, ◌+ℤ◌, ◌<ℤ◌, ◌≤ℤ◌, length, replicate, IfOk, IfSome, IfNone};
+ghost use Rattle.std.specs.Prelude.{◌≡◌, ℕ, ◌<◌, pos, neg_ℤ, ◌+ℤ◌, ◌<ℤ◌, ◌≤ℤ◌, length, replicate, IfOk, IfSome, IfNone};
 ghost use Rattle.std.specs.List.{slice_index_or};
 ghost use Rattle.flow_solve.specs.Limits.{most_arc_length, most_length};
 ghost use Rattle.flow_solve.specs.machine.Rounds.{at, IsGraph, IsRound};

@@ -1,4 +1,4 @@
-ghost use Rattle.std.specs.Prelude.{◌≡◌, ℕ, ◌+◌, ◌<◌, ◌^◌, pos, ◌≤ℤ◌, List, length, slice_index, IfOk};
+ghost use Rattle.std.specs.Prelude.{◌≡◌, ℕ, ◌+◌, ◌<◌, pos, ◌≤ℤ◌, List, length, slice_index, IfOk};
 ghost use Rattle.delay_net.specs.Shape.{IsNet};
 ghost use Rattle.delay_net.specs.Windows.{HasShortDelays};
 ghost use Rattle.delay_net.specs.Certificate.{Fits};

@@ -21,7 +21,8 @@ one_a_line i = ap (λ r. if r == 0 then 10 else 32) (mod-one (i + 1))
 byte_in_range : (n : ℕ) → n ≤ 255 → InRange uint8 (pos n)
 byte_in_range n h = record { from = omega (arith, ints); below = omega (arith, ints) }
 
-byte_number : (v : ℤ) → InRange uint8 v → (n : ℕ) × (v ≡ pos n) × (n ≤ 255)
+-- a cell of uint8 is a number up to 255
+pub byte_number : (v : ℤ) → InRange uint8 v → (n : ℕ) × (v ≡ pos n) × (n ≤ 255)
 byte_number (pos n) r = (n, refl, omega (arith, ints, r.below))
 byte_number (negsuc n) r = absurd (omega (arith, ints, r.from))
 

@@ -4,7 +4,7 @@ use Rattle.std.specs.Fmt.{decimal}
 use Rattle.std.specs.Global.{Global}
 use Rattle.soda_words.specs.Tokens.{is_number, value_behind}
 use Rattle.job_parts.specs.Words.{IsNumberWord, word}
-use Rattle.job_parts.proofs.Spelled.{number_is, number_written}
+use Rattle.soda_words.proofs.CallerLemmas.{number_is, number_written}
 
 pub word_read : (ws : List (String Global)) (k : ℕ) (w : String Global) → k < length ws → w ≡ get_or ws k w → word ws k ≡ string_bytes w
 word_read [] k w lt item = absurd (omega arith)

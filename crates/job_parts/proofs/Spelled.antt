@@ -6,6 +6,7 @@ use Rattle.std.proofs.lemmas.Bool.{eqb-true}
 use Rattle.std.proofs.lemmas.Fmt.{decimal-digits_value, decimal_digit, decimal_nonempty, digits_decimal, digits_value-decimal, first_decimal}
 use Rattle.std.proofs.lemmas.Str.Parse.{IsNumeralModel, numerals_by_fold}
 use borrow.Author.Tests.{ltb-true, lt-ltb}
+use Rattle.soda_words.proofs.CallerLemmas.{digits_words, number_is, number_written, own}
 use Rattle.soda_words.specs.Names.{behind, begins_name, is_digit, is_some_digits, is_word_byte}
 use Rattle.soda_words.specs.Tokens.{begins_with_zero, is_number, value_behind}
 use Rattle.job_parts.specs.Scan.{◌>>=◌, front_of, number_at, rest_of}
@@ -81,63 +82,6 @@ rest_again [] (y ∷ ys) h s = ap (λ t. if t then rest_of ys else y ∷ ys) s
 rest_again (x ∷ xs) ys h s =
     ap (λ t. if t then rest_of (xs ++ ys) else x ∷ (xs ++ ys)) (first (is_word_byte x) (list_all is_word_byte xs) h)
     ∙ rest_again xs ys (second (is_word_byte x) (list_all is_word_byte xs) h) s
-
-or_first : (a b : Bool) → a ≡ true → (a || b) ≡ true
-or_first true b e = refl
-or_first false b e = cc
-
-or_second : (a b : Bool) → b ≡ true → (a || b) ≡ true
-or_second true b e = refl
-or_second false b e = e
-
--- numbers
-pub own : IsNumeralModel (λ ds. list_all is_digit ds ≡ true) (value_behind 0)
-own = numerals_by_fold _ (search rules) value_behind (search rules)
-
-digits_words : (ds : List ℕ) → list_all is_digit ds ≡ true → list_all is_word_byte ds ≡ true
-digits_words [] h = refl
-digits_words (d ∷ ds) h =
-    both (begins_name d || is_digit d) (list_all is_word_byte ds) (or_second (begins_name d) (is_digit d) (first (is_digit d) (list_all is_digit ds) h)) (digits_words ds (second (is_digit d) (list_all is_digit ds) h))
-
-some_digits : (ds : List ℕ) → list_all is_digit ds ≡ true → 0 < length ds → is_some_digits ds ≡ true
-some_digits [] h lt = absurd (omega arith)
-some_digits (d ∷ ds) h lt = h
-
-some_are_digits : (ds : List ℕ) → is_some_digits ds ≡ true → (list_all is_digit ds ≡ true) × (0 < length ds)
-some_are_digits [] h = cc
-some_are_digits (d ∷ ds) h = (h, omega arith)
-
-zero_first : (ds : List ℕ) → (not (begins_with_zero ds) || length ds == 1) ≡ true → get_or ds 0 0 ≡ 48 → length ds ≡ 1
-zero_first [] h e = absurd (omega arith)
-zero_first (d ∷ ds) h e =
-    let z : (d == 48) ≡ true = eq-eqb d 48 e in
-    let k : (length (d ∷ ds) == 1) ≡ true = ap (λ t. not t || length (d ∷ ds) == 1) (sym z) ∙ h in
-    eqb-true (length (d ∷ ds)) 1 k
-
-no_zero_first : (ds : List ℕ) → 48 < get_or ds 0 0 → (not (begins_with_zero ds) || length ds == 1) ≡ true
-no_zero_first [] h = absurd (omega arith)
-no_zero_first (d ∷ ds) h =
-    elim (d == 48) as (λ t. (d == 48) ≡ t → (not t || length (d ∷ ds) == 1) ≡ true) [
-      | true ↦ λ q. absurd (omega (arith, eqb-true d 48 q))
-      | false ↦ λ q. refl
-    ] refl
-
-one_zero : (n : ℕ) → n < 2 ^ 64 → (not (begins_with_zero (decimal n)) || length (decimal n) == 1) ≡ true
-one_zero zero h = ap (λ (ds : List ℕ). not (begins_with_zero ds) || length ds == 1) (decimal_digit 0 (omega arith))
-one_zero (suc n) h = no_zero_first (decimal (suc n)) (first_decimal (suc n) (omega arith) h)
-
-pub number_is : (n : ℕ) → n < 2 ^ 64 → is_number (decimal n) ≡ true
-number_is n h =
-    both (is_some_digits (decimal n) && (not (begins_with_zero (decimal n)) || length (decimal n) == 1)) (nat_lt (value_behind 0 (decimal n)) (2 ^ 64))
-    (both (is_some_digits (decimal n)) (not (begins_with_zero (decimal n)) || length (decimal n) == 1) (some_digits (decimal n) (digits_decimal own n h) (decimal_nonempty n h)) (one_zero n h))
-    (lt-ltb (value_behind 0 (decimal n)) (2 ^ 64) (omega (arith, digits_value-decimal own n h)))
-
-pub number_written : (ds : List ℕ) → is_number ds ≡ true → (ds ≡ decimal (value_behind 0 ds)) × (value_behind 0 ds < 2 ^ 64)
-number_written ds h =
-    let l = first (is_some_digits ds && (not (begins_with_zero ds) || length ds == 1)) (nat_lt (value_behind 0 ds) (2 ^ 64)) h in
-    let small : value_behind 0 ds < 2 ^ 64 = ltb-true (value_behind 0 ds) (2 ^ 64) (second (is_some_digits ds && (not (begins_with_zero ds) || length ds == 1)) (nat_lt (value_behind 0 ds) (2 ^ 64)) h) in
-    let d = some_are_digits ds (first (is_some_digits ds) (not (begins_with_zero ds) || length ds == 1) l) in
-    (sym (decimal-digits_value own ds d.0 d.1 (zero_first ds (second (is_some_digits ds) (not (begins_with_zero ds) || length ds == 1) l)) small), small)
 
 pub number_takes : (bs : List ℕ) (x : ℕ × List ℕ) → number_at bs ≡ Some x → (bs ≡ decimal x.0 ++ x.1) × (x.0 < 2 ^ 64)
 unfolding number_at

@@ -1,11 +1,6 @@
-//! The rows of whole jobs, as tables: what `execute` answers, prints and leaves over files in memory. All of it is tests.
+//! The rows of whole jobs, as tables: what `execute` answers, prints and leaves over files in memory. All of it is
+//! tests.
 #![tactic(auto)]
 
 #[cfg(test)]
-mod jobs;
-#[cfg(test)]
-mod narrow;
-#[cfg(test)]
-mod parts;
-#[cfg(test)]
-mod refusals;
+mod tests;

@@ -17,6 +17,75 @@ const LEVELS: [&[&str]; 9] = [
     &["*", "/", "%"],
 ];
 
+// Texts that are formulas, with how they group.
+const WHOLE: [(&str, &str); 14] = [
+    ("1 + 2 * 3", "(1 + (2 * 3)) 5"),
+    ("( 1 + 2 ) * 3", "((1 + 2) * 3) 7"),
+    (
+        "( a ( - 1 ) + a ( 0 ) + a ( 1 ) ) / 3",
+        "(((a@-1 + a@0) + a@1) / 3) 19",
+    ),
+    ("a ( 1 , - 2 , 0 )", "a@1@-2@0 9"),
+    ("p", "p 1"),
+    ("p [ 7 ]", "p#7 4"),
+    ("p [ 7 ] [ 0 ] * 2", "(p#7#0 * 2) 9"),
+    ("int8 ( 1 + q )", "(int8 (1 + q)) 6"),
+    ("float ( q )", "(float q) 4"),
+    ("abs ( - 1 )", "(abs (- 1)) 5"),
+    ("min ( 1 , max ( 2 , 3 ) )", "(1 min (2 max 3)) 11"),
+    ("select ( 1 < 2 , 3 , 4 + 5 )", "((1 < 2) ? 3 : (4 + 5)) 12"),
+    ("18446744073709551615", "18446744073709551615 1"),
+    (
+        "intx ( 18446744073709551615 )",
+        "intx@18446744073709551615 4",
+    ),
+];
+
+// Texts with a formula at the start, which ends before their end.
+const ENDED: [(&str, &str); 11] = [
+    ("a b", "a 1"),
+    ("1 )", "1 1"),
+    ("1 , 2", "1 1"),
+    ("1 2", "1 1"),
+    ("1 [ 2 ]", "1 1"),
+    ("1 ~ 2", "1 1"),
+    ("1 ?", "1 1"),
+    ("a + b = 3", "(a + b) 3"),
+    ("a ( 1 ) ( 2 )", "a@1 4"),
+    ("p [ 1 ] [ 2 ] [ 3 ]", "p#1#2 7"),
+    ("p [ 1 ] ( 2 )", "p#1 4"),
+];
+
+// Texts that begin no formula.
+const WRONG: [(&str, &str); 26] = [
+    ("", "! 0"),
+    (")", "! 0"),
+    ("?", "! 0"),
+    ("= 1", "! 0"),
+    ("1 +", "! 2"),
+    ("1 + * 2", "! 2"),
+    ("( 1", "! 2"),
+    ("( 1 ]", "! 2"),
+    ("( a b )", "! 2"),
+    ("( )", "! 1"),
+    ("a (", "! 2"),
+    ("a ( )", "! 2"),
+    ("a ( 1 ,", "! 4"),
+    ("a ( - - 1 )", "! 3"),
+    ("a ( b )", "! 2"),
+    ("p [ ]", "! 2"),
+    ("p [ 1 , 2 ]", "! 3"),
+    ("p [ - 1 ]", "! 2"),
+    ("min ( 1 )", "! 3"),
+    ("min ( 1 , 2 , 3 )", "! 5"),
+    ("select ( 1 , 2 )", "! 5"),
+    ("abs ( 1 , 2 )", "! 3"),
+    ("int8 ( 1 , 2 )", "! 3"),
+    ("int8 + 1", "! 1"),
+    ("max", "! 1"),
+    ("select [ 1 ]", "! 1"),
+];
+
 fn show_bytes(out: &mut String, bytes: &[u8]) -> Result<(), NoMemory> {
     for b in bytes {
         out.push(char::from(*b))?;
@@ -83,7 +152,7 @@ fn show(alloc: Global, out: &mut String, written: &Written) -> Result<(), NoMemo
     }
 }
 
-// What reading a text's tokens answers: the formula and the number of its tokens, or `! ` and the number of the wrong one.
+// What reading a text's tokens answers: the formula and how many tokens it has, or `! ` and which one is wrong.
 fn answer(alloc: Global, text: &str) -> Result<String, NoMemory> {
     let tokens = tokens(alloc, text.as_bytes())?;
     match read_formula(alloc, tokens.as_slice()) {
@@ -132,67 +201,11 @@ fn operators(rt: HostRuntime) -> Result<(), Fail> {
 #[test]
 fn formulas(rt: HostRuntime) -> Result<(), Fail> {
     let alloc = rt.alloc();
-    for (text, wanted) in [
-        ("1 + 2 * 3", "(1 + (2 * 3)) 5"),
-        ("( 1 + 2 ) * 3", "((1 + 2) * 3) 7"),
-        (
-            "( a ( - 1 ) + a ( 0 ) + a ( 1 ) ) / 3",
-            "(((a@-1 + a@0) + a@1) / 3) 19",
-        ),
-        ("a ( 1 , - 2 , 0 )", "a@1@-2@0 9"),
-        ("p", "p 1"),
-        ("p [ 7 ]", "p#7 4"),
-        ("p [ 7 ] [ 0 ] * 2", "(p#7#0 * 2) 9"),
-        ("int8 ( 1 + q )", "(int8 (1 + q)) 6"),
-        ("float ( q )", "(float q) 4"),
-        ("abs ( - 1 )", "(abs (- 1)) 5"),
-        ("min ( 1 , max ( 2 , 3 ) )", "(1 min (2 max 3)) 11"),
-        ("select ( 1 < 2 , 3 , 4 + 5 )", "((1 < 2) ? 3 : (4 + 5)) 12"),
-        ("18446744073709551615", "18446744073709551615 1"),
-        (
-            "intx ( 18446744073709551615 )",
-            "intx@18446744073709551615 4",
-        ),
-        ("a b", "a 1"),
-        ("1 )", "1 1"),
-        ("1 , 2", "1 1"),
-        ("1 2", "1 1"),
-        ("1 [ 2 ]", "1 1"),
-        ("1 ~ 2", "1 1"),
-        ("1 ?", "1 1"),
-        ("a + b = 3", "(a + b) 3"),
-        ("a ( 1 ) ( 2 )", "a@1 4"),
-        ("p [ 1 ] [ 2 ] [ 3 ]", "p#1#2 7"),
-        ("p [ 1 ] ( 2 )", "p#1 4"),
-        ("", "! 0"),
-        (")", "! 0"),
-        ("?", "! 0"),
-        ("= 1", "! 0"),
-        ("1 +", "! 2"),
-        ("1 + * 2", "! 2"),
-        ("( 1", "! 2"),
-        ("( 1 ]", "! 2"),
-        ("( a b )", "! 2"),
-        ("( )", "! 1"),
-        ("a (", "! 2"),
-        ("a ( )", "! 2"),
-        ("a ( 1 ,", "! 4"),
-        ("a ( - - 1 )", "! 3"),
-        ("a ( b )", "! 2"),
-        ("p [ ]", "! 2"),
-        ("p [ 1 , 2 ]", "! 3"),
-        ("p [ - 1 ]", "! 2"),
-        ("min ( 1 )", "! 3"),
-        ("min ( 1 , 2 , 3 )", "! 5"),
-        ("select ( 1 , 2 )", "! 5"),
-        ("abs ( 1 , 2 )", "! 3"),
-        ("int8 ( 1 , 2 )", "! 3"),
-        ("int8 + 1", "! 1"),
-        ("max", "! 1"),
-        ("select [ 1 ]", "! 1"),
-    ] {
-        let got = answer(alloc, text)?;
-        assert_eq!(rt; got.as_str(), wanted, "{text}");
+    for rows in [WHOLE.as_slice(), ENDED.as_slice(), WRONG.as_slice()] {
+        for (text, wanted) in rows.iter() {
+            let got = answer(alloc, text)?;
+            assert_eq!(rt; got.as_str(), *wanted, "{text}");
+        }
     }
     for (fail, wanted) in [
         (FormulaFail::Wrong(7), "token 7 is wrong"),

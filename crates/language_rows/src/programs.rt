@@ -1,5 +1,5 @@
-//! Programs as data: which parts make a program, which tensors can be placed, how many live tensors and reads there are, and
-//! what is computed.
+//! Programs as data: which parts make a program, which tensors can be placed, how many live tensors and reads there
+//! are, and what is computed.
 
 ghost use Rattle.std.specs.Prelude.{◌≡◌, [], ◌∷◌, IfOk, ℤ, ℕ, List, pos, codes};
 ghost use Rattle.soda_words.specs.declared.operators.BinOp.TheVariants.{Add};
@@ -11,9 +11,12 @@ ghost use Rattle.soda_eval.specs.Sums.{input_of, output_of, sum_program, uint8};
 
 use arrayvec::ArrayVec;
 use int_types::in_range;
-use soda_eval::*;
-use soda_ir::*;
-use soda_words::{BinOp, Ty, UnOp};
+use soda_eval::{Cells, eval, is_sum_program, plain_cell, plain_run};
+use soda_ir::{
+    Border, Expr, MakeRefusal, NoMemory, Offset, Param, Parts, Program, Role, Tensor, live_count,
+    placed_tensors, read_count,
+};
+use soda_words::{BinOp, MOST_VALUES, Ty, UnOp};
 use sqlite_items::{Boxed, Items};
 use std::alloc::Global;
 use std::test::Fail;
@@ -111,15 +114,15 @@ fn tensor_of(name: Items<u8>, ty: Ty, role: Role, formula: Option<Expr>) -> Tens
     }
 }
 
-fn statement(
-    alloc: Global,
-    text: &str,
-    role: Role,
-    formula: Result<Expr, Fail>,
-) -> Result<Tensor, Fail> {
-    let name = name(alloc, text)?;
-    let ty = ty(8)?;
-    Ok(tensor_of(name, ty, role, Some(formula?)))
+// A tensor of bytes with a formula.
+fn statement(alloc: Global, text: &str, role: Role, formula: Expr) -> Result<Tensor, NoMemory> {
+    match Items::from_slice(alloc, text.as_bytes()) {
+        Ok(name) => Ok(tensor_of(name, uint8(), role, Some(formula))),
+        Err(refused) => {
+            drop(formula);
+            Err(refused)
+        }
+    }
 }
 
 fn input_tensor(alloc: Global, text: &str, bits: u8) -> Result<Tensor, Fail> {
@@ -135,12 +138,12 @@ fn add_chain(alloc: Global, tensors: &mut Items<Tensor>, locals: u64) -> Result<
     let mut before = 0;
     for text in LOCALS {
         if before < 8 && (before as u64) < locals {
-            let formula = Ok(cell(before, &[0]));
+            let formula = cell(before, &[0]);
             tensors.push(statement(alloc, text, Role::Local, formula)?)?;
             before += 1;
         }
     }
-    let formula = Ok(cell(before, &[0]));
+    let formula = cell(before, &[0]);
     tensors.push(statement(alloc, "o", Role::Output, formula)?)?;
     Ok(())
 }
@@ -149,7 +152,7 @@ fn add_chain(alloc: Global, tensors: &mut Items<Tensor>, locals: u64) -> Result<
 fn add_many(alloc: Global, tensors: &mut Items<Tensor>, locals: u64) -> Result<(), Fail> {
     for number in 0..locals {
         let text = format!(in alloc; "s{number}")?;
-        tensors.push(statement(alloc, text.as_str(), Role::Local, Ok(Expr::Num(number)))?)?;
+        tensors.push(statement(alloc, text.as_str(), Role::Local, Expr::Num(number))?)?;
     }
     Ok(())
 }
@@ -158,7 +161,7 @@ fn changed_input(alloc: Global, change: Change) -> Result<Tensor, Fail> {
     match change {
         Change::InputName(text) => input_tensor(alloc, text, 8),
         Change::InputType(bits) | Change::Border(bits) => input_tensor(alloc, "a", bits),
-        Change::InputWithFormula => statement(alloc, "a", Role::Input, Ok(Expr::Num(0))),
+        Change::InputWithFormula => Ok(statement(alloc, "a", Role::Input, Expr::Num(0))?),
         _ => input_tensor(alloc, "a", 8),
     }
 }
@@ -176,13 +179,13 @@ fn changed_formula(alloc: Global, change: Change) -> Result<Expr, Fail> {
 
 fn changed_output(alloc: Global, change: Change) -> Result<Tensor, Fail> {
     match change {
-        Change::OutputRole(role) => statement(alloc, "o", role, average(alloc)),
+        Change::OutputRole(role) => Ok(statement(alloc, "o", role, average(alloc)?)?),
         Change::OutputWithout => {
             let name = name(alloc, "o")?;
             let ty = ty(8)?;
             Ok(tensor_of(name, ty, Role::Output, None))
         }
-        _ => statement(alloc, "o", Role::Output, changed_formula(alloc, change)),
+        _ => Ok(statement(alloc, "o", Role::Output, changed_formula(alloc, change)?)?),
     }
 }
 
@@ -331,8 +334,8 @@ const MADE: [(Change, u64, bool); 58] = [
     (Change::OutputAlone, 1, false),
     (Change::Many(510), 1, true),
     (Change::Many(511), 1, false),
-    (Change::Params(65_536, 65_536), 1, true),
-    (Change::Params(65_536, 65_535), 1, false),
+    (Change::Params(MOST_VALUES, MOST_VALUES), 1, true),
+    (Change::Params(MOST_VALUES, 65_535), 1, false),
     (Change::Params(65_537, 65_537), 1, false),
     // Over several iterations.
     (Change::InputType(7), 2, false),
@@ -413,7 +416,7 @@ fn small_parts(alloc: Global, read: &[&[u32]]) -> Result<Parts, Fail> {
     let mut tensors = Items::new(alloc);
     tensors.push(input_tensor(alloc, "", 8)?)?;
     for read in read {
-        tensors.push(statement(alloc, "", Role::Local, sum_over(alloc, read))?)?;
+        tensors.push(statement(alloc, "", Role::Local, sum_over(alloc, read)?)?)?;
     }
     Ok(parts_of(alloc, tensors))
 }
@@ -425,20 +428,21 @@ fn long_parts(alloc: Global, one: u32, this: u32) -> Result<Parts, Fail> {
     for number in 1..MANY + 1 {
         let next = if number < MANY { number + 1 } else { 0 };
         let read = if number == one { this } else { next };
-        tensors.push(statement(alloc, "", Role::Local, Ok(cell(read, &[0])))?)?;
+        tensors.push(statement(alloc, "", Role::Local, cell(read, &[0]))?)?;
     }
     Ok(parts_of(alloc, tensors))
 }
 
 // Which tensors of these parts can be placed.
 fn placed(alloc: Global, parts: Parts) -> Result<Vec<bool>, Fail> {
-    if parts.tensors.len() as u64 >= 1 << 32 {
+    if (parts.tensors.len() as u64) < 1 << 32 {
+        let marks = placed_tensors(alloc, &parts);
+        drop(parts);
+        Ok(marks?)
+    } else {
         drop(parts);
         Err("too many tensors")?
     }
-    let marks = placed_tensors(alloc, &parts);
-    drop(parts);
-    Ok(marks?)
 }
 
 #[test]

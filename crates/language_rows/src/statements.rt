@@ -87,7 +87,7 @@ fn statements_of_texts(rt: HostRuntime) -> Result<(), Fail> {
         ("", ""),
         ("# only a comment", ""),
         (
-            "kernel: avg\nburst width: 8\nunroll factor: 1\ninput uint8: a(*)\noutput uint8: o(0) = (a(-1) + a(0) + a(1)) / 3\n",
+            "kernel: avg\nburst width: 8\nunroll factor: 1\ninput uint8: a(*)\noutput uint8: o(0) = a(-1) / 3\n",
             "kernel@1 avg; burst width@2 8; unroll factor@3 1; input uint8 a *; output uint8 o@5 0; ",
         ),
         (

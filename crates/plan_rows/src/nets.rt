@@ -1,5 +1,5 @@
 ghost use Rattle.std.specs.Prelude.{◌≡◌, ◌↔◌, IfOk, IfSome, IsSome, IsTrue};
-ghost use Rattle.delay_net.specs.Shape.{IsNet, IsWidth, IsInOrder, HasSmallOffset};
+ghost use Rattle.delay_net.specs.Shape.{IsNet, IsInOrder, HasSmallOffset};
 
 use crate::NoMemory;
 use delay_net::{MOST_BITS, MOST_OFFSET, MOST_READS, MOST_TENSORS, Net, Read};

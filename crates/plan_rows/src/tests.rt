@@ -12,6 +12,19 @@ mod walks;
 // A read, as its reader, what it reads and its offset.
 type Reading = (u32, u32, i64);
 
+// Three reads of one tensor by the next, along lines of 2,000 cells, and three along a line.
+const BLUR: [Reading; 6] = [
+    (1, 0, 0),
+    (1, 0, 2000),
+    (1, 0, 4000),
+    (2, 1, 0),
+    (2, 1, 1),
+    (2, 1, 2),
+];
+
+// A wide tensor that is better computed late.
+const FAR: [Reading; 3] = [(1, 0, 0), (2, 0, 1000), (2, 1, 0)];
+
 fn reads_of(alloc: Global, rows: &[Reading]) -> Result<Vec<Read>, AllocError> {
     let mut reads = Vec::new(alloc);
     for (reader, of, offset) in rows {

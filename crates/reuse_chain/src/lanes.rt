@@ -6,8 +6,8 @@ ghost use Rattle.reuse_chain.specs.Lanes.{age_in_cycles, IsTaps, taps_of, gaps_o
 use crate::NoMemory;
 use std::alloc::Global;
 
-/// The taps of a lane: the distinct ages in cycles of reads of these ages in cells, rising. `Err` only where memory runs
-/// out.
+/// The taps of a lane: the distinct ages in cycles of reads of these ages in cells, rising. `Err` only where memory
+/// runs out.
 pub fn taps(alloc: Global, ages: &[u64], lane: u32, unroll: u32) -> Result<Vec<u64>, NoMemory>
     requires lane { lane < unroll }
     requires unroll { unroll ≤ most_lanes }

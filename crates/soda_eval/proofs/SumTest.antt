@@ -4,6 +4,7 @@ use Rattle.std.specs.List.{list_all}
 use Rattle.std.proofs.lemmas.Bool.{and_from, and_parts, eqb-true, eq-eqb, false≢true, le-leb, leb-true, not-true}
 use Rattle.soda_words.specs.IntType.{IntType}
 use Rattle.soda_words.specs.declared.operators.BinOp.TheVariants.{LogOr, LogAnd, BitOr, BitXor, BitAnd, Eq, Ne, Lt, Le, Gt, Ge, Add, Sub, Mul, Div, Rem, Min, Max}
+use Rattle.soda_words.proofs.CallerLemmas.{is_word-itself}
 use Rattle.soda_words.specs.Names.{behind, is_free_name, is_word}
 use Rattle.soda_ir.specs.declared.program.Border.{Border}
 use Rattle.soda_ir.specs.declared.program.Border.TheVariants.{Ignore, Preserve}
@@ -120,16 +121,9 @@ input_is t e h =
     let none : t.formula ≡ None = no_formula t.formula (sym (ap (λ (x : Role). elim t.formula [ None ↦ is_input_role x | Some f ↦ not (is_input_role x) ]) r) ∙ h) in
     ap (λ x. tensor t.name x t.role t.formula) (type_is t.ty p.1) ∙ ap (λ x. tensor t.name uint8 x t.formula) r ∙ ap (λ x. tensor t.name uint8 Input x) none
 
-behind_itself : (w : List ℕ) → behind w w ≡ Some []
-behind_itself [] = refl
-behind_itself (b ∷ bs) = ap (λ c. if c then behind bs bs else None) (eq-eqb b b refl) ∙ behind_itself bs
-
-same_word : (w : List ℕ) → is_word w w ≡ true
-same_word w = ap (λ (o : Option (List ℕ)). elim o [ None ↦ false | Some rest ↦ length rest == 0 ]) (behind_itself w)
-
 apart : (i o : List ℕ) → not (is_word i o || false) ≡ true → i ≡ o → ⊥
 apart i o e h =
-    let yes : is_word i o ≡ true = sym (ap (λ w. is_word i w) h) ∙ same_word i in
+    let yes : is_word i o ≡ true = sym (ap (λ w. is_word i w) h) ∙ is_word-itself i in
     false≢true (sym (ap (λ b. not (b || false)) yes) ∙ e)
 
 output_is : (t : PlainTensor) (f : Formula) → is_output_role t.role ≡ true → is_uint8 t.ty ≡ true → t.formula ≡ Some f → t ≡ output_of t.name f

@@ -43,8 +43,8 @@ unfoldable pub cell : Stencil → Given → List ℤ → (k : ℕ) → ℕ → L
 cell s g params zero x p = pos 0
 cell s g params (suc k) x p =
     by_formula (formula_at s x) (g.cell x p) (λ f. if in_region s g (suc k) x p
-        then wrapped (type_at s x) (valued s.scope (λ y o. cell s g params k y (moved p o)) params f)
-        else outside_cell s g x p)
+    then wrapped (type_at s x) (valued s.scope (λ y o. cell s g params k y (moved p o)) params f)
+    else outside_cell s g x p)
 
 -- the cell of an array at a point, and 0 outside its box
 abbrev pub array_cell : List ℕ → List ℤ → List ℤ → ℤ

@@ -28,8 +28,11 @@ cells_at p rows = size (extents_at p rows)
 abbrev pub outputs_from : ℕ → List PlainTensor → List ℕ
 outputs_from k [] = []
 outputs_from k (t ∷ ts) =
-    elim t.role [ Input ↦ outputs_from (suc k) ts | Local ↦ outputs_from (suc k) ts
-        | Output ↦ k ∷ outputs_from (suc k) ts ]
+    elim t.role [
+      | Input ↦ outputs_from (suc k) ts
+      | Local ↦ outputs_from (suc k) ts
+      | Output ↦ k ∷ outputs_from (suc k) ts
+    ]
 
 -- the numbers of the outputs of a program, in order
 abbrev pub outputs_of : PlainProgram → List ℕ
@@ -39,8 +42,11 @@ outputs_of p = outputs_from 0 p.tensors
 abbrev pub borders_from : ℕ → List PlainTensor → List (Option ℕ)
 borders_from j [] = []
 borders_from j (t ∷ ts) =
-    elim t.role [ Input ↦ None ∷ borders_from j ts | Local ↦ None ∷ borders_from j ts
-        | Output ↦ Some j ∷ borders_from (suc j) ts ]
+    elim t.role [
+      | Input ↦ None ∷ borders_from j ts
+      | Local ↦ None ∷ borders_from j ts
+      | Output ↦ Some j ∷ borders_from (suc j) ts
+    ]
 
 -- what stands outside a tensor's region: 0, or under preserve the cell of an output's input
 abbrev pub borders_of : PlainProgram → List (Option ℕ)
@@ -64,7 +70,7 @@ run_of p rows params inputs t =
 abbrev pub defined_arrays : PlainProgram → ℕ → List ℤ → List (List ℤ) → List (List ℤ)
 defined_arrays p rows params inputs =
     listed (λ j. listed (λ i. (run_of p rows params inputs p.iterate).cell j (point (extents_at p rows) i))
-        (cells_at p rows)) (length (outputs_of p))
+    (cells_at p rows)) (length (outputs_of p))
 
 -- an array of n cells of the type
 pub record IsArray (ty : IntType) (n : ℕ) (cells : List ℤ) : Type 0 where

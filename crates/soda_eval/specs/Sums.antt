@@ -141,7 +141,7 @@ is_sum_input t = is_input_role t.role && is_uint8 t.ty
 abbrev pub is_sum_output : PlainTensor → Bool
 is_sum_output t =
     is_output_role t.role && is_uint8 t.ty &&
-        elim t.formula [ None ↦ false | Some f ↦ is_sum f && nat_le (cell_count f) most_summed ]
+    elim t.formula [ None ↦ false | Some f ↦ is_sum f && nat_le (cell_count f) most_summed ]
 
 -- an input, and an output that is a sum
 abbrev pub are_sum_tensors : List PlainTensor → Bool

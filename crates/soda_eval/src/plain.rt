@@ -22,7 +22,8 @@ use sqlite_items::Items;
 use std::alloc::Global;
 
 /// The formula's value at a place over one iteration's arrays, before it is wrapped to the tensor's type, and 0 for an
-/// input. All reads from the place lie in the box, and `arrays` has a whole array, in range, for each tensor that is read.
+/// input. All reads from the place lie in the box, and `arrays` has a whole array, in range, for each tensor that is
+/// read.
 pub fn plain_cell(
     program: &Program,
     rows: u64,
@@ -34,10 +35,13 @@ pub fn plain_cell(
     requires sums { IsSumProgram (plain program.now) }
     requires small { cells_at (plain program.now) rows ≤ most_cells }
     requires arrays { (f : Formula) → formula_at (stencil_of (plain program.now) rows) tensor ≡ Some f
-        → Each (λ t o. IsArray (slice_index_or (scope_of (plain program.now)).tensors t int32) (cells_at (plain program.now) rows) (slice_index_or arrays.now t [])) f }
+        → Each (λ t o. IsArray (slice_index_or (scope_of (plain program.now)).tensors t int32)
+        (cells_at (plain program.now) rows) (slice_index_or arrays.now t [])) f }
     requires params { HasValues (place_types (plain program.now).params) params.now }
     ensures { result ≡ by_formula (formula_at (stencil_of (plain program.now) rows) tensor) (pos 0)
-        (valued (scope_of (plain program.now)) (λ t o. array_cell (extents_at (plain program.now) rows) (slice_index_or arrays.now t []) (moved (point (extents_at (plain program.now) rows) place) o)) params.now) }
+        (valued (scope_of (plain program.now))
+        (λ t o. array_cell (extents_at (plain program.now) rows) (slice_index_or arrays.now t [])
+        (moved (point (extents_at (plain program.now) rows) place) o)) params.now) }
 {
     let extents = [rows];
     let parts = program.parts();
@@ -73,16 +77,13 @@ fn cell_at(
 ) -> i128
     requires sums { IsSumProgram (plain program.now) }
     requires small { cells_at (plain program.now) rows ≤ most_cells }
-    requires inputs {
-        HasArrays (cells_at (plain program.now) rows) (input_types (plain program.now).tensors) inputs.now
-    }
+    requires inputs { HasArrays (cells_at (plain program.now) rows)
+        (input_types (plain program.now).tensors) inputs.now }
     requires params { HasValues (place_types (plain program.now).params) params.now }
     requires within { place < rows }
-    ensures {
-        result ≡ cell (stencil_of (plain program.now) rows)
-            (whole (extents_at (plain program.now) rows) inputs.now) params.now 2 1
-            (point (extents_at (plain program.now) rows) place)
-    }
+    ensures { result ≡ cell (stencil_of (plain program.now) rows)
+        (whole (extents_at (plain program.now) rows) inputs.now) params.now 2 1
+        (point (extents_at (plain program.now) rows) place) }
 {
     let formula = sum_of(program);
     let parts = program.parts();
@@ -106,9 +107,8 @@ fn output_array(
 ) -> Result<Items<i128>, NoMemory>
     requires sums { IsSumProgram (plain program.now) }
     requires small { cells_at (plain program.now) rows ≤ most_cells }
-    requires inputs {
-        HasArrays (cells_at (plain program.now) rows) (input_types (plain program.now).tensors) inputs.now
-    }
+    requires inputs { HasArrays (cells_at (plain program.now) rows)
+        (input_types (plain program.now).tensors) inputs.now }
     requires params { HasValues (place_types (plain program.now).params) params.now }
     ensures { IfOk result (λ out. out ∷ [] ≡ defined_arrays (plain program.now) rows params.now inputs.now) }
 {
@@ -130,9 +130,8 @@ pub fn plain_run(
 ) -> Result<Vec<Items<i128>>, NoMemory>
     requires sums { IsSumProgram (plain program.now) }
     requires small { cells_at (plain program.now) rows ≤ most_cells }
-    requires inputs {
-        HasArrays (cells_at (plain program.now) rows) (input_types (plain program.now).tensors) inputs.now
-    }
+    requires inputs { HasArrays (cells_at (plain program.now) rows)
+        (input_types (plain program.now).tensors) inputs.now }
     requires params { HasValues (place_types (plain program.now).params) params.now }
     ensures { IfOk result (λ arrays. arrays.items ≡ defined_arrays (plain program.now) rows params.now inputs.now) }
 {

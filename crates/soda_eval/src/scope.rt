@@ -43,9 +43,8 @@ fn start_of(parts: &Parts, param: u32) -> u128
 pub(crate) fn param_value(parts: &Parts, values: &[i128], param: u32, place: u32) -> i128
     requires there { param < length parts.now.params }
     requires within { slice_index_or (scope_of (plain parts.now)).starts param 0 + place < length values.now }
-    ensures {
-        result ≡ slice_index_or values.now (slice_index_or (scope_of (plain parts.now)).starts param 0 + place) (pos 0)
-    }
+    ensures { result ≡ slice_index_or values.now (slice_index_or (scope_of (plain parts.now)).starts param 0 + place)
+        (pos 0) }
 {
     let start = start_of(parts, param);
     let many = values.len();

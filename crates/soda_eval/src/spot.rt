@@ -20,9 +20,8 @@ pub(crate) struct Spot<'a> {
 }
 
 impl<'a> Cells for Spot<'a> {
-    ghost value = {
-        λ s t o. array_cell s.extents.now (slice_index_or s.arrays.now t []) (moved (point s.extents.now s.place) o)
-    };
+    ghost value = { λ s t o. array_cell s.extents.now (slice_index_or s.arrays.now t [])
+        (moved (point s.extents.now s.place) o) };
 
     fn cell(&self, tensor: u32, offset: &Offset) -> i128 {
         held(
@@ -38,10 +37,8 @@ impl<'a> Cells for Spot<'a> {
 // The cell of an array at an offset from a place, and 0 outside.
 fn held(extents: &[u64], arrays: &[Items<i128>], place: u64, tensor: u32, offset: &[i64]) -> i128
     requires small { size extents.now < 2 ^ 32 }
-    ensures {
-        result ≡ array_cell extents.now (slice_index_or arrays.now tensor [])
-            (moved (point extents.now place) offset.now)
-    }
+    ensures { result ≡ array_cell extents.now (slice_index_or arrays.now tensor [])
+        (moved (point extents.now place) offset.now) }
 {
     match target(extents, place, offset) {
         Some(at) => number(arrays, tensor, at),

@@ -1,6 +1,18 @@
 ghost use Rattle.std.specs.Prelude.{◌≡◌, ◌==◌, ◌&&◌, ◌↔◌, IsTrue, map, min};
 ghost use Rattle.soda_ir.specs.Program.{plain, plain_tensor};
-ghost use Rattle.soda_eval.specs.Sums.{IsSumProgram, are_sum_tensors, cell_count, has_sum_frame, is_cell, is_one_near, is_sum, is_sum_input, is_sum_operator, is_sum_output, is_uint8};
+ghost use Rattle.soda_eval.specs.Sums.{
+  IsSumProgram,
+  are_sum_tensors,
+  cell_count,
+  has_sum_frame,
+  is_cell,
+  is_one_near,
+  is_sum,
+  is_sum_input,
+  is_sum_operator,
+  is_sum_output,
+  is_uint8,
+};
 ghost use Rattle.soda_ir.specs.Tree.{formula_of};
 
 use soda_ir::{Expr, Offset, Parts, Program, Tensor};

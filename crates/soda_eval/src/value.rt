@@ -19,8 +19,8 @@ pub trait Cells {
         ensures { result ≡ value self.now tensor offset.now.items };
 }
 
-/// The value of a formula. Every cell that it names is a tensor of the program, and `cells` has a value in that tensor's
-/// range for it.
+/// The value of a formula. Every cell that it names is a tensor of the program, and `cells` has a value in that
+/// tensor's range for it.
 pub fn eval<C: Cells>(program: &Program, expr: &Expr, cells: &C, params: &[i128]) -> i128
     requires { IsReadable (scope_of (plain program.now)) (C.value cells.now) params.now (formula_of expr.now) }
     ensures { result ≡ valued (scope_of (plain program.now)) (C.value cells.now) params.now (formula_of expr.now) }
@@ -38,9 +38,8 @@ pub(crate) fn evaluate<C: Cells>(
 ) -> (Ty, i128)
     requires { IsReadable (scope_of (plain parts.now)) (C.value cells.now) params.now (formula_of expr.now) }
     ensures ty { result.0 ≡ typed (scope_of (plain parts.now)) (formula_of expr.now) }
-    ensures value {
-        result.1 ≡ valued (scope_of (plain parts.now)) (C.value cells.now) params.now (formula_of expr.now)
-    }
+    ensures value { result.1 ≡ valued (scope_of (plain parts.now)) (C.value cells.now) params.now
+        (formula_of expr.now) }
     ensures in_range { InRange result.0 result.1 }
 {
     match expr {

@@ -34,23 +34,41 @@ at offset = cell the_tensor (offset ∷ [])
 
 sum-is : IsTerm 7 sum_tokens (binary Add (binary Add (at (neg_ℤ (pos 1))) (at (pos 0))) (at (pos 1)))
 sum-is =
-    joined 1 PlusSign Add refl (joined 1 PlusSign Add refl (tighter (tighter (tighter (a_cell the_tensor refl (record { opened = 1; inside = before; closed = 1; is = refl; item = last_item (back 1 1 1) }))))) (tighter (tighter (a_cell the_tensor refl (record { opened = 1; inside = number_on 1 0 ∷ []; closed = 1; is = refl; item = last_item (ahead 1 0) }))))) (tighter (tighter (a_cell the_tensor refl (record { opened = 1; inside = number_on 1 1 ∷ []; closed = 1; is = refl; item = last_item (ahead 1 1) }))))
+    joined 1 PlusSign Add refl (joined 1 PlusSign Add refl (tighter (tighter
+    (tighter (a_cell the_tensor refl (record { opened = 1; inside = before; closed = 1; is = refl; item = last_item (back 1 1 1) })))))
+    (tighter (tighter (a_cell the_tensor refl (record {
+      opened = 1;
+      inside = number_on 1 0
+          ∷ [];
+      closed = 1;
+      is = refl;
+      item = last_item (ahead 1 0);
+    })))))
+    (tighter (tighter (a_cell the_tensor refl (record { opened = 1; inside = number_on 1 1 ∷ []; closed = 1; is = refl; item = last_item (ahead 1 1) }))))
 
 -- a mean is a sum in brackets, and then a division
 mean-is : IsFormula mean_tokens (binary Div (binary Add (binary Add (at (neg_ℤ (pos 1))) (at (pos 0))) (at (pos 1))) (literal 3))
 mean-is =
-    tighter (tighter (tighter (tighter (tighter (tighter (tighter (tighter (joined 1 Slash Div refl (tighter (tighter (bracketed 1 1 (tighter (tighter (tighter (tighter (tighter (tighter (tighter sum-is)))))))))) (tighter (a_literal 1 3))))))))))
+    tighter (tighter (tighter (tighter (tighter (tighter (tighter (tighter
+    (joined 1 Slash Div refl (tighter (tighter (bracketed 1 1 (tighter (tighter (tighter (tighter (tighter (tighter (tighter sum-is))))))))))
+    (tighter (a_literal 1 3))))))))))
 
 -- brackets that are open, and tokens that count, at each end of the formula's parts
-sizes : (counted_tokens mean_tokens ≡ 18) × (open_brackets mean_tokens ≡ 0) × (open_brackets (symbol_on 1 OpenRound ∷ cell_tokens []) ≡ 1) × (counted_tokens (cell_tokens before) ≡ 4) × (open_brackets (name_on 1 (codes "p") ∷ symbol_on 1 OpenSquare ∷ []) ≡ 1)
+sizes : (counted_tokens mean_tokens ≡ 18) × (open_brackets mean_tokens ≡ 0) × (open_brackets (symbol_on 1 OpenRound ∷ cell_tokens []) ≡ 1)
+    × (counted_tokens (cell_tokens before) ≡ 4) × (open_brackets (name_on 1 (codes "p") ∷ symbol_on 1 OpenSquare ∷ []) ≡ 1)
 sizes = (refl, refl, refl, refl, refl)
 
 -- `1 - 2 - 3` groups to the left, `1 + 2 * 3` by its levels, and `- 1 * 2` has its sign on the 1
-grouped : IsFormula (number_on 1 1 ∷ symbol_on 1 MinusSign ∷ number_on 1 2 ∷ symbol_on 1 MinusSign ∷ number_on 1 3 ∷ []) (binary Sub (binary Sub (literal 1) (literal 2)) (literal 3)) × IsFormula (number_on 1 1 ∷ symbol_on 1 PlusSign ∷ number_on 1 2 ∷ symbol_on 1 Star ∷ number_on 1 3 ∷ []) (binary Add (literal 1) (binary Mul (literal 2) (literal 3))) × IsFormula (symbol_on 1 MinusSign ∷ number_on 1 1 ∷ symbol_on 1 Star ∷ number_on 1 2 ∷ []) (binary Mul (unary Minus (literal 1)) (literal 2))
+grouped : IsFormula (number_on 1 1 ∷ symbol_on 1 MinusSign ∷ number_on 1 2 ∷ symbol_on 1 MinusSign ∷ number_on 1 3 ∷ [])
+    (binary Sub (binary Sub (literal 1) (literal 2)) (literal 3)) × IsFormula
+    (number_on 1 1 ∷ symbol_on 1 PlusSign ∷ number_on 1 2 ∷ symbol_on 1 Star ∷ number_on 1 3 ∷ [])
+    (binary Add (literal 1) (binary Mul (literal 2) (literal 3))) × IsFormula
+    (symbol_on 1 MinusSign ∷ number_on 1 1 ∷ symbol_on 1 Star ∷ number_on 1 2 ∷ []) (binary Mul (unary Minus (literal 1)) (literal 2))
 grouped = (ends-formula _ _ refl, ends-formula _ _ refl, ends-formula _ _ refl)
 
 -- a param takes two indexes
-indexed : IsFormula (name_on 1 (codes "p") ∷ symbol_on 1 OpenSquare ∷ number_on 1 7 ∷ symbol_on 1 CloseSquare ∷ symbol_on 1 OpenSquare ∷ number_on 1 0 ∷ symbol_on 1 CloseSquare ∷ []) (value (record { line = 1; text = codes "p" }) (7 ∷ 0 ∷ []))
+indexed : IsFormula (name_on 1 (codes "p") ∷ symbol_on 1 OpenSquare ∷ number_on 1 7 ∷ symbol_on 1 CloseSquare ∷ symbol_on 1 OpenSquare ∷ number_on 1 0
+    ∷ symbol_on 1 CloseSquare ∷ []) (value (record { line = 1; text = codes "p" }) (7 ∷ 0 ∷ []))
 indexed = ends-formula _ _ refl
 
 -- the fronts `min(1)`, `int8 +`, `a b` and `a(--`

@@ -43,4 +43,5 @@ equals-ends (Some s) line = equals-refused s.mode s.frames line
 -- `=` stands in no formula
 pub no_equals_sign : (before after : List Placed) (line : ℕ) → BeginsFormula (before ++ symbol_on line EqualSign ∷ after) → ⊥
 no_equals_sign before after line =
-    refused-begins (before ++ symbol_on line EqualSign ∷ after) (feeds-append start before (symbol_on line EqualSign ∷ after) ∙ ap (λ x. feeds x after) (equals-ends (feeds start before) line) ∙ feeds-none after)
+    refused-begins (before ++ symbol_on line EqualSign ∷ after) (feeds-append start before (symbol_on line EqualSign ∷ after)
+    ∙ ap (λ x. feeds x after) (equals-ends (feeds start before) line) ∙ feeds-none after)

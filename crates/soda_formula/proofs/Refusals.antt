@@ -30,7 +30,8 @@ pub no-component : (s : Symbol) (w : Word) (zs : List ℤ) (fs : List Frame) →
 no-component MinusSign w zs fs n = absurd (n refl)
 no-component _ w zs fs n = refl
 
-pub no-components : (s : Symbol) (w : Word) (zs : List ℤ) (fs : List Frame) → (s ≡ Comma → ⊥) → (s ≡ CloseRound → ⊥) → component_followed w zs fs (Sign s) ≡ None
+pub no-components : (s : Symbol) (w : Word) (zs : List ℤ) (fs : List Frame) → (s ≡ Comma → ⊥) → (s ≡ CloseRound → ⊥)
+    → component_followed w zs fs (Sign s) ≡ None
 no-components Comma w zs fs n m = absurd (n refl)
 no-components CloseRound w zs fs n m = absurd (m refl)
 no-components _ w zs fs n m = refl

@@ -27,13 +27,17 @@ Opens in_abs us =
 Opens (in_first op) us =
     (line : ℕ) × (o : ℕ) × (text : List ℕ) × (us ≡ name_on line text ∷ symbol_on o OpenRound ∷ []) × (call_text op ≡ Some text)
 Opens (in_second op a) us =
-    (line : ℕ) × (o : ℕ) × (comma : ℕ) × (text : List ℕ) × (vs : List Placed) × (us ≡ name_on line text ∷ symbol_on o OpenRound ∷ (vs ++ symbol_on comma Comma ∷ [])) × (call_text op ≡ Some text) × IsTerm 0 vs a
+    (line : ℕ) × (o : ℕ) × (comma : ℕ) × (text : List ℕ) × (vs : List Placed)
+    × (us ≡ name_on line text ∷ symbol_on o OpenRound ∷ (vs ++ symbol_on comma Comma ∷ [])) × (call_text op ≡ Some text) × IsTerm 0 vs a
 Opens in_test us =
     (line : ℕ) × (o : ℕ) × (us ≡ name_on line (codes "select") ∷ symbol_on o OpenRound ∷ [])
 Opens (in_then a) us =
-    (line : ℕ) × (o : ℕ) × (first : ℕ) × (vs : List Placed) × (us ≡ name_on line (codes "select") ∷ symbol_on o OpenRound ∷ (vs ++ symbol_on first Comma ∷ [])) × IsTerm 0 vs a
+    (line : ℕ) × (o : ℕ) × (first : ℕ) × (vs : List Placed) × (us ≡ name_on line (codes "select") ∷ symbol_on o OpenRound
+    ∷ (vs ++ symbol_on first Comma ∷ [])) × IsTerm 0 vs a
 Opens (in_else a b) us =
-    (line : ℕ) × (o : ℕ) × (first : ℕ) × (second : ℕ) × (vs : List Placed) × (ws : List Placed) × (us ≡ name_on line (codes "select") ∷ symbol_on o OpenRound ∷ (vs ++ symbol_on first Comma ∷ (ws ++ symbol_on second Comma ∷ []))) × IsTerm 0 vs a × IsTerm 0 ws b
+    (line : ℕ) × (o : ℕ) × (first : ℕ) × (second : ℕ) × (vs : List Placed) × (ws : List Placed)
+    × (us ≡ name_on line (codes "select") ∷ symbol_on o OpenRound ∷ (vs ++ symbol_on first Comma ∷ (ws ++ symbol_on second Comma ∷ [])))
+    × IsTerm 0 vs a × IsTerm 0 ws b
 
 -- an operator stands only behind looser ones
 abbrev pub Under : Frame → List Frame → Type 0
@@ -65,13 +69,17 @@ Describes (named w) fs ts = Behind fs ts (λ us. (us ≡ word_on w ∷ []) × (i
 Describes (at_component w zs) fs ts =
     Behind fs ts (λ us. (o : ℕ) × (vs : List Placed) × (us ≡ word_on w ∷ symbol_on o OpenRound ∷ vs) × (is_reserved w.text ≡ false) × ComponentsBefore vs zs)
 Describes (at_magnitude w zs) fs ts =
-    Behind fs ts (λ us. (o : ℕ) × (minus : ℕ) × (vs : List Placed) × (us ≡ word_on w ∷ symbol_on o OpenRound ∷ (vs ++ symbol_on minus MinusSign ∷ [])) × (is_reserved w.text ≡ false) × ComponentsBefore vs zs)
+    Behind fs ts (λ us. (o : ℕ) × (minus : ℕ) × (vs : List Placed) × (us ≡ word_on w ∷ symbol_on o OpenRound ∷ (vs ++ symbol_on minus MinusSign ∷ []))
+    × (is_reserved w.text ≡ false) × ComponentsBefore vs zs)
 Describes (behind_component w zs) fs ts =
-    Behind fs ts (λ us. (o : ℕ) × (vs : List Placed) × (us ≡ word_on w ∷ symbol_on o OpenRound ∷ vs) × (is_reserved w.text ≡ false) × AreParted IsComponent vs zs)
+    Behind fs ts (λ us. (o : ℕ) × (vs : List Placed) × (us ≡ word_on w ∷ symbol_on o OpenRound ∷ vs) × (is_reserved w.text ≡ false)
+    × AreParted IsComponent vs zs)
 Describes (at_index w is) fs ts =
-    Behind fs ts (λ us. (o : ℕ) × (vs : List Placed) × (us ≡ word_on w ∷ (vs ++ symbol_on o OpenSquare ∷ [])) × (is_reserved w.text ≡ false) × AreIndexes vs is × (length is < 2))
+    Behind fs ts (λ us. (o : ℕ) × (vs : List Placed) × (us ≡ word_on w ∷ (vs ++ symbol_on o OpenSquare ∷ [])) × (is_reserved w.text ≡ false)
+    × AreIndexes vs is × (length is < 2))
 Describes (at_close w is) fs ts =
-    Behind fs ts (λ us. (vs : List Placed) × (us ≡ word_on w ∷ vs) × (is_reserved w.text ≡ false) × ((c : ℕ) → AreIndexes (vs ++ symbol_on c CloseSquare ∷ []) is) × (length is ≤ 2))
+    Behind fs ts (λ us. (vs : List Placed) × (us ≡ word_on w ∷ vs) × (is_reserved w.text ≡ false)
+    × ((c : ℕ) → AreIndexes (vs ++ symbol_on c CloseSquare ∷ []) is) × (length is ≤ 2))
 Describes (indexed w is) fs ts =
     Behind fs ts (λ us. (vs : List Placed) × (us ≡ word_on w ∷ vs) × (is_reserved w.text ≡ false) × AreIndexes vs is × (length is ≤ 2))
 
@@ -110,20 +118,27 @@ Held-as l ts h = Behind h.frames ts (λ us. IsTerm l us h.term) × Fits l h.fram
 held-same : (l : ℕ) (h : Held) (ts us : List Placed) → ts ≡ us → Held-as l ts h → Held-as l us h
 held-same l h ts us e x = let P : List Placed → Type 0 = λ v. Held-as l v h in subst P e x
 
-chosen : (l k : ℕ) (ts : List Placed) (a b : Held) (c : Bool) → nat_le l k ≡ c → (l ≤ k → Held-as l ts a) → (k < l → Held-as l ts b) → Held-as l ts (if c then a else b)
+chosen : (l k : ℕ) (ts : List Placed) (a b : Held) (c : Bool) → nat_le l k ≡ c → (l ≤ k → Held-as l ts a) → (k < l → Held-as l ts b)
+    → Held-as l ts (if c then a else b)
 chosen l k ts a b true e y n = y (leb-true l k e)
 chosen l k ts a b false e y n = n (leb-false l k e)
 
-pub reduced : (l : ℕ) (fs : List Frame) (t : Term) (m : ℕ) (ts us : List Placed) → Open fs ts → IsTerm m us t → Fits m fs → l ≤ m → l ≤ 8 → Held-as l (ts ++ us) (reduce l fs t)
+pub reduced : (l : ℕ) (fs : List Frame) (t : Term) (m : ℕ) (ts us : List Placed) → Open fs ts → IsTerm m us t → Fits m fs → l ≤ m → l ≤ 8
+    → Held-as l (ts ++ us) (reduce l fs t)
 reduced l [] t m ts us o x f h b = ((ts, us, refl, o, loosen m l us t h x), tt)
 reduced l (behind_prefix op ∷ fs) t m ts us (before, ws, e, o, (line, s, d, p), u) x f h b =
-    let r = reduced l fs (unary op t) 9 before (symbol_on line s ∷ us) o (prefixed line s op p (loosen m 9 us t f x)) (fits-prefix fs before o) (omega arith) b in
+    let r = reduced l fs (unary op t) 9 before (symbol_on line s ∷ us) o (prefixed line s op p (loosen m 9 us t f x)) (fits-prefix fs before o)
+    (omega arith) b in
     held-same l (reduce l fs (unary op t)) (before ++ symbol_on line s ∷ us) (ts ++ us) (rw (e, d) (sym (append_assoc before (symbol_on line s ∷ []) us))) r
 reduced l (behind_infix k op a ∷ fs) t m ts us (before, ws, e, o, (line, s, vs, d, i, y), u) x f h b =
-    chosen l k (ts ++ us) (reduce l fs (binary op a t)) (record { frames = behind_infix k op a ∷ fs; term = t }) (nat_le l k) refl (λ q. held-same l (reduce l fs (binary op a t)) (before ++ (vs ++ symbol_on line s ∷ us)) (ts ++ us) (rw (e, d) (simp append_assoc)) (reduced l fs (binary op a t) k before (vs ++ symbol_on line s ∷ us) o (joined line s op i y (loosen m (suc k) us t f x)) u q b)) (λ q. ((ts, us, refl, (before, ws, e, o, (line, s, vs, d, i, y), u), loosen m l us t h x), q))
+    chosen l k (ts ++ us) (reduce l fs (binary op a t)) (record { frames = behind_infix k op a ∷ fs; term = t }) (nat_le l k) refl
+    (λ q. held-same l (reduce l fs (binary op a t)) (before ++ (vs ++ symbol_on line s ∷ us)) (ts ++ us) (rw (e, d) (simp append_assoc))
+    (reduced l fs (binary op a t) k before (vs ++ symbol_on line s ∷ us) o (joined line s op i y (loosen m (suc k) us t f x)) u q b))
+    (λ q. ((ts, us, refl, (before, ws, e, o, (line, s, vs, d, i, y), u), loosen m l us t h x), q))
 reduced l (f ∷ fs) t m ts us o x g h b = ((ts, us, refl, o, loosen m l us t h x), tt)
 
-closed-tells : (fs : List Frame) (t : Term) (ts us : List Placed) (line : ℕ) → Open fs ts → IsTerm 0 us t → Tells (closing fs t) ((ts ++ us) ++ symbol_on line CloseRound ∷ [])
+closed-tells : (fs : List Frame) (t : Term) (ts us : List Placed) (line : ℕ) → Open fs ts → IsTerm 0 us t
+    → Tells (closing fs t) ((ts ++ us) ++ symbol_on line CloseRound ∷ [])
 closed-tells [] t ts us line o x = tt
 closed-tells (in_group ∷ fs) t ts us line (before, ws, e, o, (p, d), u) x =
     (before, symbol_on p OpenRound ∷ (us ++ symbol_on line CloseRound ∷ []), rw (e, d) (simp append_assoc), o, bracketed p line x)
@@ -131,38 +146,81 @@ closed-tells (in_cast w ∷ fs) t ts us line (before, ws, e, o, (p, d, c), u) x 
     (before, word_on w ∷ symbol_on p OpenRound ∷ (us ++ symbol_on line CloseRound ∷ []), rw (e, d) (simp append_assoc), o, a_cast w p line c x)
 closed-tells (in_abs ∷ fs) t ts us line (before, ws, e, o, (n, p, d), u) x =
     (before, name_on n (codes "abs") ∷ symbol_on p OpenRound ∷ (us ++ symbol_on line CloseRound ∷ []), rw (e, d) (simp append_assoc), o, an_abs n p line x)
-closed-tells (in_second op a ∷ fs) t ts us line (before, ws, e, o, (n, p, comma, text, vs, d, c, y), u) x =
-    (before, name_on n text ∷ symbol_on p OpenRound ∷ (vs ++ symbol_on comma Comma ∷ (us ++ symbol_on line CloseRound ∷ [])), rw (e, d) (simp append_assoc), o, a_call n p comma line op text c y x)
-closed-tells (in_else a b ∷ fs) t ts us line (before, ws, e, o, (n, p, first, second, vs, ws', d, y, z), u) x =
-    (before, name_on n (codes "select") ∷ symbol_on p OpenRound ∷ (vs ++ symbol_on first Comma ∷ (ws' ++ symbol_on second Comma ∷ (us ++ symbol_on line CloseRound ∷ []))), rw (e, d) (simp append_assoc), o, a_choice n p first second line y z x)
+closed-tells (in_second op a ∷ fs) t ts us line (before, ws, e, o, (n, p, comma, text, vs, d, c, y), u) x = (
+  before,
+  name_on n text ∷ symbol_on p OpenRound ∷ (vs ++ symbol_on comma Comma ∷ (us ++ symbol_on line CloseRound ∷ [])),
+  rw (e, d)
+      (simp append_assoc),
+  o,
+  a_call n p comma line op text c y x,
+)
+closed-tells (in_else a b ∷ fs) t ts us line (before, ws, e, o, (n, p, first, second, vs, ws', d, y, z), u) x = (
+  before,
+  name_on n (codes "select") ∷ symbol_on p OpenRound ∷ (vs ++ symbol_on first Comma
+      ∷ (ws' ++ symbol_on second Comma ∷ (us ++ symbol_on line CloseRound ∷ []))),
+  rw (e, d) (simp append_assoc),
+  o,
+  a_choice n p first second line y z x,
+)
 closed-tells (f ∷ fs) t ts us line o x = tt
 
-parted-tells : (fs : List Frame) (t : Term) (ts us : List Placed) (line : ℕ) → Open fs ts → IsTerm 0 us t → Tells (parting fs t) ((ts ++ us) ++ symbol_on line Comma ∷ [])
+parted-tells : (fs : List Frame) (t : Term) (ts us : List Placed) (line : ℕ) → Open fs ts → IsTerm 0 us t
+    → Tells (parting fs t) ((ts ++ us) ++ symbol_on line Comma ∷ [])
 parted-tells [] t ts us line o x = tt
-parted-tells (in_first op ∷ fs) t ts us line (before, ws, e, o, (n, p, text, d, c), u) x =
-    (before, name_on n text ∷ symbol_on p OpenRound ∷ (us ++ symbol_on line Comma ∷ []), rw (e, d) (simp append_assoc), o, (n, p, line, text, us, refl, c, x), tt)
-parted-tells (in_test ∷ fs) t ts us line (before, ws, e, o, (n, p, d), u) x =
-    (before, name_on n (codes "select") ∷ symbol_on p OpenRound ∷ (us ++ symbol_on line Comma ∷ []), rw (e, d) (simp append_assoc), o, (n, p, line, us, refl, x), tt)
-parted-tells (in_then a ∷ fs) t ts us line (before, ws, e, o, (n, p, first, vs, d, y), u) x =
-    (before, name_on n (codes "select") ∷ symbol_on p OpenRound ∷ (vs ++ symbol_on first Comma ∷ (us ++ symbol_on line Comma ∷ [])), rw (e, d) (simp append_assoc), o, (n, p, first, line, vs, us, refl, y, x), tt)
+parted-tells (in_first op ∷ fs) t ts us line (before, ws, e, o, (n, p, text, d, c), u) x = (
+  before,
+  name_on n text ∷ symbol_on p OpenRound ∷ (us ++ symbol_on line Comma ∷ []),
+  rw (e, d) (simp append_assoc),
+  o,
+  (n, p, line, text, us, refl, c, x),
+  tt,
+)
+parted-tells (in_test ∷ fs) t ts us line (before, ws, e, o, (n, p, d), u) x = (
+  before,
+  name_on n (codes "select") ∷ symbol_on p OpenRound ∷ (us ++ symbol_on line Comma ∷ []),
+  rw (e, d) (simp append_assoc),
+  o,
+  (n, p, line, us, refl, x),
+  tt,
+)
+parted-tells (in_then a ∷ fs) t ts us line (before, ws, e, o, (n, p, first, vs, d, y), u) x = (
+  before,
+  name_on n (codes "select") ∷ symbol_on p OpenRound ∷ (vs ++ symbol_on first Comma ∷ (us ++ symbol_on line Comma ∷ [])),
+  rw (e, d)
+      (simp append_assoc),
+  o,
+  (n, p, first, line, vs, us, refl, y, x),
+  tt,
+)
 parted-tells (f ∷ fs) t ts us line o x = tt
 
-sign-tells : (i : Option Infix) (s : Symbol) (fs : List Frame) (t : Term) (ts us : List Placed) (line : ℕ) → infix_of s ≡ i → Open fs ts → IsTerm 10 us t → Tells (sign_after i s fs t) ((ts ++ us) ++ symbol_on line s ∷ [])
+sign-tells : (i : Option Infix) (s : Symbol) (fs : List Frame) (t : Term) (ts us : List Placed) (line : ℕ) → infix_of s ≡ i → Open fs ts
+    → IsTerm 10 us t → Tells (sign_after i s fs t) ((ts ++ us) ++ symbol_on line s ∷ [])
 sign-tells (Some i) s fs t ts us line e o x =
     let low : i.level ≤ 8 = infix-level s i e in
-    let h = reduced i.level fs t 10 ts us o x (fits-up 9 fs (fits-prefix fs ts o)) (omega arith) low in
-    (h.0.0, h.0.1 ++ symbol_on line s ∷ [], ap (λ v. v ++ symbol_on line s ∷ []) h.0.2 ∙ append_assoc h.0.0 h.0.1 (symbol_on line s ∷ []), h.0.3, (line, s, h.0.1, refl, e, h.0.4), h.1)
+    let h = reduced i.level fs t 10 ts us o x (fits-up 9 fs (fits-prefix fs ts o)) (omega arith) low in (
+      h.0.0,
+      h.0.1 ++ symbol_on line s ∷ [],
+      ap (λ v. v ++ symbol_on line s ∷ []) h.0.2
+          ∙ append_assoc h.0.0 h.0.1 (symbol_on line s ∷ []),
+      h.0.3,
+      (line, s, h.0.1, refl, e, h.0.4),
+      h.1,
+    )
 sign-tells None CloseRound fs t ts us line e o x =
     let h = reduced 0 fs t 10 ts us o x (fits-up 9 fs (fits-prefix fs ts o)) (omega arith) (omega arith) in
     let r = reduce 0 fs t in
-    tells-same (closing r.frames r.term) ((h.0.0 ++ h.0.1) ++ symbol_on line CloseRound ∷ []) ((ts ++ us) ++ symbol_on line CloseRound ∷ []) (ap (λ v. v ++ symbol_on line CloseRound ∷ []) (sym h.0.2)) (closed-tells r.frames r.term h.0.0 h.0.1 line h.0.3 h.0.4)
+    tells-same (closing r.frames r.term) ((h.0.0 ++ h.0.1) ++ symbol_on line CloseRound ∷ []) ((ts ++ us) ++ symbol_on line CloseRound ∷ [])
+    (ap (λ v. v ++ symbol_on line CloseRound ∷ []) (sym h.0.2)) (closed-tells r.frames r.term h.0.0 h.0.1 line h.0.3 h.0.4)
 sign-tells None Comma fs t ts us line e o x =
     let h = reduced 0 fs t 10 ts us o x (fits-up 9 fs (fits-prefix fs ts o)) (omega arith) (omega arith) in
     let r = reduce 0 fs t in
-    tells-same (parting r.frames r.term) ((h.0.0 ++ h.0.1) ++ symbol_on line Comma ∷ []) ((ts ++ us) ++ symbol_on line Comma ∷ []) (ap (λ v. v ++ symbol_on line Comma ∷ []) (sym h.0.2)) (parted-tells r.frames r.term h.0.0 h.0.1 line h.0.3 h.0.4)
+    tells-same (parting r.frames r.term) ((h.0.0 ++ h.0.1) ++ symbol_on line Comma ∷ []) ((ts ++ us) ++ symbol_on line Comma ∷ [])
+    (ap (λ v. v ++ symbol_on line Comma ∷ []) (sym h.0.2)) (parted-tells r.frames r.term h.0.0 h.0.1 line h.0.3 h.0.4)
 sign-tells None _ fs t ts us line e o x = tt
 
-pub after-tells : (k : Token) (line : ℕ) (fs : List Frame) (t : Term) (ts front us : List Placed) → ts ≡ front ++ us → Open fs front → IsTerm 10 us t → Tells (after fs t k) (ts ++ record { line = line; token = k } ∷ [])
+pub after-tells : (k : Token) (line : ℕ) (fs : List Frame) (t : Term) (ts front us : List Placed) → ts ≡ front ++ us → Open fs front → IsTerm 10 us t
+    → Tells (after fs t k) (ts ++ record { line = line; token = k } ∷ [])
 after-tells (Sign s) line fs t ts front us e o x =
     rw e (sign-tells (infix_of s) s fs t front us line refl o x)
 after-tells _ line fs t ts front us e o x = tt

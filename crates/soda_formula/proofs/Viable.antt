@@ -25,14 +25,16 @@ operand-tells (indexed w is) fs ts t (front, us, e, o, (vs, c, r, x, few)) d =
     (front, us, e, o, subst P same (rw c (a_value w r x few)))
 operand-tells _ fs ts t h d = cc
 
-alone : (fs : List Frame) (t a : Term) (ts : List Placed) → Behind fs ts (λ us. IsTerm 0 us t) → left_alone (record { frames = fs; term = t }) ≡ Some a → IsTerm 0 ts a
+alone : (fs : List Frame) (t a : Term) (ts : List Placed) → Behind fs ts (λ us. IsTerm 0 us t)
+    → left_alone (record { frames = fs; term = t }) ≡ Some a → IsTerm 0 ts a
 alone [] t a ts (front, us, e, o, x) d =
     let same : t ≡ a = cc in
     let P : Term → Type 0 = λ v. IsTerm 0 us v in
     rw (e, o) (subst P same x)
 alone (f ∷ fs) t a ts h d = cc
 
-finish-by : (o : Option Term) (m : Mode) (fs : List Frame) (a : Term) (ts : List Placed) → operand m ≡ o → Describes m fs ts → finished o fs ≡ Some a → IsTerm 0 ts a
+finish-by : (o : Option Term) (m : Mode) (fs : List Frame) (a : Term) (ts : List Placed) → operand m ≡ o → Describes m fs ts → finished o fs ≡ Some a
+    → IsTerm 0 ts a
 finish-by None m fs a ts e h d = cc
 finish-by (Some t) m fs a ts e h d =
     let b = operand-tells m fs ts t h e in
@@ -51,17 +53,28 @@ ends-formula ts a d = ends-by (feeds start ts) ts a (start-tells ts) d
 -- some tokens lead every state with this operand, reduced, to an end
 abbrev Leads : List Frame → Term → Type 0
 Leads fs t =
-    (rest : List Placed) × (a : Term) × ((m : Mode) (gs : List Frame) (u : Term) → operand m ≡ Some u → reduce 0 gs u ≡ reduce 0 fs t → ends (feeds (in_state m gs) rest) ≡ Some a)
+    (rest : List Placed) × (a : Term) × ((m : Mode) (gs : List Frame) (u : Term) → operand m ≡ Some u → reduce 0 gs u ≡ reduce 0 fs t
+    → ends (feeds (in_state m gs) rest) ≡ Some a)
 
 -- behind `)`
-closing-leads : (f : Frame) (fs : List Frame) (t u : Term) → reduce 0 (f ∷ fs) t ≡ record { frames = f ∷ fs; term = t } → closing (f ∷ fs) t ≡ in_state (whole u) fs → Leads fs u → Leads (f ∷ fs) t
-closing-leads f fs t u e c (rest, a, k) =
-    (symbol_on 1 CloseRound ∷ rest, a, λ m gs v d r. ap (λ x. ends (feeds x rest)) (close-step m gs 1 v (record { frames = f ∷ fs; term = t }) d (r ∙ e) ∙ c) ∙ k (whole u) fs u refl refl)
+closing-leads : (f : Frame) (fs : List Frame) (t u : Term) → reduce 0 (f ∷ fs) t ≡ record { frames = f ∷ fs; term = t }
+    → closing (f ∷ fs) t ≡ in_state (whole u) fs → Leads fs u → Leads (f ∷ fs) t
+closing-leads f fs t u e c (rest, a, k) = (
+  symbol_on 1 CloseRound ∷ rest,
+  a,
+  λ m gs v d r. ap (λ x. ends (feeds x rest))
+      (close-step m gs 1 v (record { frames = f ∷ fs; term = t }) d (r ∙ e) ∙ c) ∙ k (whole u) fs u refl refl,
+)
 
 -- behind `,` and a number
-parting-leads : (f g : Frame) (fs : List Frame) (t : Term) → reduce 0 (f ∷ fs) t ≡ record { frames = f ∷ fs; term = t } → parting (f ∷ fs) t ≡ in_state wanted (g ∷ fs) → Leads (g ∷ fs) (literal 0) → Leads (f ∷ fs) t
-parting-leads f g fs t e c (rest, a, k) =
-    (symbol_on 1 Comma ∷ number_on 1 0 ∷ rest, a, λ m gs v d r. ap (λ x. ends (feeds (then_feed x (number_on 1 0)) rest)) (part-step m gs 1 v (record { frames = f ∷ fs; term = t }) d (r ∙ e) ∙ c) ∙ k (whole (literal 0)) (g ∷ fs) (literal 0) refl refl)
+parting-leads : (f g : Frame) (fs : List Frame) (t : Term) → reduce 0 (f ∷ fs) t ≡ record { frames = f ∷ fs; term = t }
+    → parting (f ∷ fs) t ≡ in_state wanted (g ∷ fs) → Leads (g ∷ fs) (literal 0) → Leads (f ∷ fs) t
+parting-leads f g fs t e c (rest, a, k) = (
+  symbol_on 1 Comma ∷ number_on 1 0 ∷ rest,
+  a,
+  λ m gs v d r. ap (λ x. ends (feeds (then_feed x (number_on 1 0)) rest))
+      (part-step m gs 1 v (record { frames = f ∷ fs; term = t }) d (r ∙ e) ∙ c) ∙ k (whole (literal 0)) (g ∷ fs) (literal 0) refl refl,
+)
 
 leads : (fs : List Frame) (t : Term) → Leads fs t
 leads [] t = ([], t, λ m gs u d r. ap (λ o. finished o gs) d ∙ ap left_alone r)
@@ -73,12 +86,15 @@ leads (in_group ∷ fs) t = closing-leads in_group fs t t refl refl (leads fs t)
 leads (in_cast w ∷ fs) t = closing-leads (in_cast w) fs t (cast w t) refl refl (leads fs (cast w t))
 leads (in_abs ∷ fs) t = closing-leads in_abs fs t (unary Abs t) refl refl (leads fs (unary Abs t))
 leads (in_first op ∷ fs) t =
-    parting-leads (in_first op) (in_second op t) fs t refl refl (closing-leads (in_second op t) fs (literal 0) (binary op t (literal 0)) refl refl (leads fs (binary op t (literal 0))))
+    parting-leads (in_first op) (in_second op t) fs t refl refl (closing-leads (in_second op t) fs (literal 0) (binary op t (literal 0)) refl refl
+    (leads fs (binary op t (literal 0))))
 leads (in_second op b ∷ fs) t = closing-leads (in_second op b) fs t (binary op b t) refl refl (leads fs (binary op b t))
 leads (in_test ∷ fs) t =
-    parting-leads in_test (in_then t) fs t refl refl (parting-leads (in_then t) (in_else t (literal 0)) fs (literal 0) refl refl (closing-leads (in_else t (literal 0)) fs (literal 0) (choice t (literal 0) (literal 0)) refl refl (leads fs (choice t (literal 0) (literal 0)))))
+    parting-leads in_test (in_then t) fs t refl refl (parting-leads (in_then t) (in_else t (literal 0)) fs (literal 0) refl refl
+    (closing-leads (in_else t (literal 0)) fs (literal 0) (choice t (literal 0) (literal 0)) refl refl (leads fs (choice t (literal 0) (literal 0)))))
 leads (in_then c ∷ fs) t =
-    parting-leads (in_then c) (in_else c t) fs t refl refl (closing-leads (in_else c t) fs (literal 0) (choice c t (literal 0)) refl refl (leads fs (choice c t (literal 0))))
+    parting-leads (in_then c) (in_else c t) fs t refl refl (closing-leads (in_else c t) fs (literal 0) (choice c t (literal 0)) refl refl
+    (leads fs (choice c t (literal 0))))
 leads (in_else c b ∷ fs) t = closing-leads (in_else c b) fs t (choice c b t) refl refl (leads fs (choice c b t))
 
 -- some tokens lead this state to an end
@@ -95,19 +111,24 @@ before p m n fs gs e (rest, a, h) = (p ∷ rest, a, ap (λ x. ends (feeds x rest
 can_end : (m : Mode) (fs : List Frame) → CanEnd m fs
 can_end wanted fs = before (number_on 1 0) wanted (whole (literal 0)) fs fs refl (led (whole (literal 0)) fs (literal 0) refl)
 can_end (called f) fs =
-    before (symbol_on 1 OpenRound) (called f) wanted fs (f ∷ fs) refl (before (number_on 1 0) wanted (whole (literal 0)) (f ∷ fs) (f ∷ fs) refl (led (whole (literal 0)) (f ∷ fs) (literal 0) refl))
+    before (symbol_on 1 OpenRound) (called f) wanted fs (f ∷ fs) refl (before (number_on 1 0) wanted (whole (literal 0)) (f ∷ fs) (f ∷ fs) refl
+    (led (whole (literal 0)) (f ∷ fs) (literal 0) refl))
 can_end (whole t) fs = led (whole t) fs t refl
 can_end (named w) fs = led (named w) fs (value w []) refl
 can_end (at_component w zs) fs =
-    before (number_on 1 0) (at_component w zs) (behind_component w (zs ++ pos 0 ∷ [])) fs fs refl (before (symbol_on 1 CloseRound) (behind_component w (zs ++ pos 0 ∷ [])) (whole (cell w (zs ++ pos 0 ∷ []))) fs fs refl (led (whole (cell w (zs ++ pos 0 ∷ []))) fs (cell w (zs ++ pos 0 ∷ [])) refl))
+    before (number_on 1 0) (at_component w zs) (behind_component w (zs ++ pos 0 ∷ [])) fs fs refl
+    (before (symbol_on 1 CloseRound) (behind_component w (zs ++ pos 0 ∷ [])) (whole (cell w (zs ++ pos 0 ∷ []))) fs fs refl
+    (led (whole (cell w (zs ++ pos 0 ∷ []))) fs (cell w (zs ++ pos 0 ∷ [])) refl))
 can_end (at_magnitude w zs) fs =
     let at : List ℤ = zs ++ neg_ℤ (pos 0) ∷ [] in
-    before (number_on 1 0) (at_magnitude w zs) (behind_component w at) fs fs refl (before (symbol_on 1 CloseRound) (behind_component w at) (whole (cell w at)) fs fs refl (led (whole (cell w at)) fs (cell w at) refl))
+    before (number_on 1 0) (at_magnitude w zs) (behind_component w at) fs fs refl
+    (before (symbol_on 1 CloseRound) (behind_component w at) (whole (cell w at)) fs fs refl (led (whole (cell w at)) fs (cell w at) refl))
 can_end (behind_component w zs) fs =
     before (symbol_on 1 CloseRound) (behind_component w zs) (whole (cell w zs)) fs fs refl (led (whole (cell w zs)) fs (cell w zs) refl)
 can_end (at_index w is) fs =
     let at : List ℕ = is ++ 0 ∷ [] in
-    before (number_on 1 0) (at_index w is) (at_close w at) fs fs refl (before (symbol_on 1 CloseSquare) (at_close w at) (indexed w at) fs fs refl (led (indexed w at) fs (value w at) refl))
+    before (number_on 1 0) (at_index w is) (at_close w at) fs fs refl (before (symbol_on 1 CloseSquare) (at_close w at) (indexed w at) fs fs refl
+    (led (indexed w at) fs (value w at) refl))
 can_end (at_close w is) fs =
     before (symbol_on 1 CloseSquare) (at_close w is) (indexed w is) fs fs refl (led (indexed w is) fs (value w is) refl)
 can_end (indexed w is) fs = led (indexed w is) fs (value w is) refl

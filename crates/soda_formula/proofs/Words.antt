@@ -36,13 +36,15 @@ word-call line Min text e = let h : codes "min" ≡ text = cc in rw (← h)
 word-call line Max text e = let h : codes "max" ≡ text = cc in rw (← h)
 word-call line _ text e = cc
 
-last_of : (m1 m2 m3 m4 m5 n : Mode) (a b c d e : Bool) → ((((a || b) || c) || d) || e) ≡ false → (if a then m1 else (if b then m2 else (if c then m3 else (if d then m4 else (if e then m5 else n))))) ≡ n
+last_of : (m1 m2 m3 m4 m5 n : Mode) (a b c d e : Bool) → ((((a || b) || c) || d) || e) ≡ false
+    → (if a then m1 else (if b then m2 else (if c then m3 else (if d then m4 else (if e then m5 else n))))) ≡ n
 last_of m1 m2 m3 m4 m5 n false false false false false h = refl
 last_of m1 m2 m3 m4 m5 n _ _ _ _ _ h = cc
 
 pub word-free : (w : Word) → is_reserved w.text ≡ false → word_mode w ≡ named w
 word-free w h =
-    last_of _ _ _ _ _ _ (is_cast_word w.text) (is_word (codes "min") w.text) (is_word (codes "max") w.text) (is_word (codes "abs") w.text) (is_word (codes "select") w.text) h
+    last_of _ _ _ _ _ _ (is_cast_word w.text) (is_word (codes "min") w.text) (is_word (codes "max") w.text) (is_word (codes "abs") w.text)
+    (is_word (codes "select") w.text) h
 
 -- what a word begins, test by test
 pub mode-cast : (w : Word) → is_cast_word w.text ≡ true → called (in_cast w) ≡ word_mode w
@@ -51,16 +53,20 @@ mode-cast w a = rw a
 pub mode-min : (w : Word) → is_cast_word w.text ≡ false → is_word (codes "min") w.text ≡ true → called (in_first Min) ≡ word_mode w
 mode-min w a b = rw (a, b)
 
-pub mode-max : (w : Word) → is_cast_word w.text ≡ false → is_word (codes "min") w.text ≡ false → is_word (codes "max") w.text ≡ true → called (in_first Max) ≡ word_mode w
+pub mode-max : (w : Word) → is_cast_word w.text ≡ false → is_word (codes "min") w.text ≡ false → is_word (codes "max") w.text ≡ true
+    → called (in_first Max) ≡ word_mode w
 mode-max w a b c = rw (a, b, c)
 
-pub mode-abs : (w : Word) → is_cast_word w.text ≡ false → is_word (codes "min") w.text ≡ false → is_word (codes "max") w.text ≡ false → is_word (codes "abs") w.text ≡ true → called in_abs ≡ word_mode w
+pub mode-abs : (w : Word) → is_cast_word w.text ≡ false → is_word (codes "min") w.text ≡ false → is_word (codes "max") w.text ≡ false
+    → is_word (codes "abs") w.text ≡ true → called in_abs ≡ word_mode w
 mode-abs w a b c d = rw (a, b, c, d)
 
-pub mode-select : (w : Word) → is_cast_word w.text ≡ false → is_word (codes "min") w.text ≡ false → is_word (codes "max") w.text ≡ false → is_word (codes "abs") w.text ≡ false → is_word (codes "select") w.text ≡ true → called in_test ≡ word_mode w
+pub mode-select : (w : Word) → is_cast_word w.text ≡ false → is_word (codes "min") w.text ≡ false → is_word (codes "max") w.text ≡ false
+    → is_word (codes "abs") w.text ≡ false → is_word (codes "select") w.text ≡ true → called in_test ≡ word_mode w
 mode-select w a b c d e = rw (a, b, c, d, e)
 
-pub mode-name : (w : Word) → is_cast_word w.text ≡ false → is_word (codes "min") w.text ≡ false → is_word (codes "max") w.text ≡ false → is_word (codes "abs") w.text ≡ false → is_word (codes "select") w.text ≡ false → named w ≡ word_mode w
+pub mode-name : (w : Word) → is_cast_word w.text ≡ false → is_word (codes "min") w.text ≡ false → is_word (codes "max") w.text ≡ false
+    → is_word (codes "abs") w.text ≡ false → is_word (codes "select") w.text ≡ false → named w ≡ word_mode w
 mode-name w a b c d e = rw (a, b, c, d, e)
 
 -- a test for a word, at the bytes that both are

@@ -1,4 +1,4 @@
-//! Formulas and statements as program texts write them, the grammar of formulas, and reading one from the start of tokens.
+//! Formulas and statements as program texts write them, the grammar of formulas, and reading one from the first tokens.
 #![tactic(auto)]
 
 mod frame;

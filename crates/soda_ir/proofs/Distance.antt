@@ -1,9 +1,10 @@
 -- How far a cell stands away, and the reads of a formula.
-use Rattle.std.proofs.Common.{◌≡◌, ℕ, zero, suc, ◌+◌, ◌*◌, ◌<◌, ◌≤◌, ◌-◌, Bool, true, false, ◌&&◌, not, List, [], ◌∷◌, ◌++◌, ℤ, pos, ◌+ℤ◌, ◌*ℤ◌, unsigned_abs, length, take, drop, get_or, refl, sym, ◌∙◌, ap, subst, arith, nat_le, eqb, mul-le-mul_left, mul-le-mul_right, ◌==◌, nat_lt, map, Option, Some, None, slice_index_or, ◌^◌, if◌then◌else◌, Result, Ok, Err, OnOk}
+use Rattle.std.proofs.Common.{◌≡◌, ℕ, zero, suc, ◌+◌, ◌*◌, ◌<◌, ◌≤◌, ◌-◌, Bool, true, false, ◌&&◌, not, List, [], ◌∷◌, ◌++◌, ℤ, pos, ◌+ℤ◌, ◌*ℤ◌, unsigned_abs, length, take, drop, get_or, refl, sym, ◌∙◌, ap, subst, arith, nat_le, eqb, mul-le-mul_left, mul-le-mul_right, ◌==◌, nat_lt, map, Option, Some, None, slice_index_or, ◌^◌, if◌then◌else◌, Result, Ok, Err, OnOk, FitsSigned, to_z, of_z}
+use Rattle.std.specs.Int.{w64, w128}
 use Rattle.std.specs.List.{list_all}
 use Rattle.std.proofs.lemmas.Bool.{and_from, and_parts, leb-true}
 use Rattle.std.proofs.lemmas.Grind.{common_steps}
-use Rattle.std.proofs.lemmas.Int.{ints, unsigned_abs-mul}
+use Rattle.std.proofs.lemmas.Int.{ints, to_z-of_z, unsigned_abs-mul}
 use Rattle.std.proofs.lemmas.List.{append-nil, append_assoc}
 use Rattle.soda_ir.specs.Formula.{every}
 use Rattle.soda_ir.specs.Counts.{IsCountable, border_reads, formula_in, is_output, output_number, reach}
@@ -32,6 +33,31 @@ times_bound n s r h =
 
 pub sum_bound : (d x : ℤ) (s : ℕ) → unsigned_abs d ≤ 32768 → unsigned_abs x ≤ 32768 * s → unsigned_abs (d +ℤ x) ≤ 32768 * (1 + s)
 sum_bound d x s h k = omega (arith, ints)
+
+-- the sum of a component and of a small number fits
+small_sum : (d x : ℤ) → FitsSigned w64 d → unsigned_abs x ≤ 2 ^ 105 → FitsSigned w128 (d +ℤ x)
+small_sum d x f h = omega (arith, ints, f, h)
+
+-- an extent times a small number is small
+small_product : (n : ℕ) (r : ℤ) → n < 2 ^ 64 → unsigned_abs r ≤ 2 ^ 41 → unsigned_abs (pos n *ℤ r) ≤ 2 ^ 105
+small_product n r l h =
+    let m : n * unsigned_abs r ≤ n * 2 ^ 41 = mul-le-mul_left n h in
+    omega (arith, unsigned_abs-mul (pos n) r, m, l)
+
+-- one dimension more of a distance, as the code computes it: nothing overflows, and it is the number that it stands for
+pub one_outward : (d r x : ℤ) (n : ℕ) → FitsSigned w64 d → n < 2 ^ 64 → FitsSigned w128 r → unsigned_abs r ≤ 2 ^ 41 → FitsSigned w128 x
+    → x ≡ to_z w128 (of_z w128 (pos n)) *ℤ to_z w128 (of_z w128 r)
+    → FitsSigned w128 (to_z w128 (of_z w128 (to_z w64 (of_z w64 d))) +ℤ to_z w128 (of_z w128 x))
+    × (to_z w128 (of_z w128 (to_z w128 (of_z w128 (to_z w64 (of_z w64 d))) +ℤ to_z w128 (of_z w128 x))) ≡ d +ℤ (pos n *ℤ r))
+one_outward d r x n f l g h k e =
+    let wide : FitsSigned w128 (pos n) = omega (arith, ints, l) in
+    let deep : FitsSigned w128 d = omega (arith, ints, f) in
+    let a : to_z w128 (of_z w128 (to_z w64 (of_z w64 d))) ≡ d = ap (λ v. to_z w128 (of_z w128 v)) (to_z-of_z w64 d f) ∙ to_z-of_z w128 d deep in
+    let m : x ≡ pos n *ℤ r = e ∙ ap (λ v. v *ℤ to_z w128 (of_z w128 r)) (to_z-of_z w128 (pos n) wide) ∙ ap (λ v. pos n *ℤ v) (to_z-of_z w128 r g) in
+    let s : to_z w128 (of_z w128 (to_z w64 (of_z w64 d))) +ℤ to_z w128 (of_z w128 x) ≡ d +ℤ (pos n *ℤ r) =
+    ap (λ v. v +ℤ to_z w128 (of_z w128 x)) a ∙ ap (λ v. d +ℤ v) (to_z-of_z w128 x k ∙ m) in
+    let fits : FitsSigned w128 (d +ℤ (pos n *ℤ r)) = small_sum d (pos n *ℤ r) f (small_product n r l h) in
+    (subst (λ v. FitsSigned w128 v) (sym s) fits, ap (λ v. to_z w128 (of_z w128 v)) s ∙ to_z-of_z w128 (d +ℤ (pos n *ℤ r)) fits)
 
 none_some : {f : Formula} → None ≡ Some f → ⊥
 none_some e = cc

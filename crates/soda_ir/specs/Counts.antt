@@ -129,13 +129,13 @@ distinct_count (r ∷ rs) = (if list_any (is_same_read r) rs then 0 else 1) + di
 unfoldable pub live_count : PlainProgram → ℕ
 live_count p =
     count_below (is_input p) (length p.tensors) + sum_below
-        (λ later. count_below (is_live_statement p later) (length p.tensors)) p.iterate
+    (λ later. count_below (is_live_statement p later) (length p.tensors)) p.iterate
 
 -- the reads of all live locals and outputs: each pair of what is read and how far away, once for a reader
 unfoldable pub read_count : PlainProgram → ℕ
 read_count p =
     sum_below (λ later. sum_below (λ x. if is_live_statement p later x then distinct_count (tensor_reads p x) else 0)
-        (length p.tensors)) p.iterate
+    (length p.tensors)) p.iterate
 
 -- how far away in an array a cell can stand whose offset has a 1 in each dimension, where the last extent is no matter
 abbrev pub reach : List ℕ → ℕ

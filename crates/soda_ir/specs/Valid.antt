@@ -51,8 +51,11 @@ cell_size t = if nat_le t.bits 8 then 1 else (if nat_le t.bits 16 then 2 else (i
 -- whole cells of an input or output fill a burst of this width
 abbrev pub fills_burst : ℕ → PlainTensor → Bool
 fills_burst width t =
-    elim t.role [ Local ↦ true | Input ↦ width % (8 * cell_size t.ty) == 0 | Output ↦ width %
-        (8 * cell_size t.ty) == 0 ]
+    elim t.role [
+      | Local ↦ true
+      | Input ↦ width % (8 * cell_size t.ty) == 0
+      | Output ↦ width % (8 * cell_size t.ty) == 0
+    ]
 
 -- no more sizes than a param may have, none of them 0
 abbrev pub is_good_param : PlainParam → Bool

@@ -57,7 +57,7 @@ token_count p (param k i) = 1 + 3 * index_count p k
 token_count p (unary op a) = operator_tokens (unary_row op).level 3 + 2 * operand_pairs op a + token_count p a
 token_count p (binary op a b) =
     operator_tokens (binary_row op).level 4 + (2 * left_pairs op a + token_count p a) +
-        (2 * right_pairs op b + token_count p b)
+    (2 * right_pairs op b + token_count p b)
 token_count p (choice c a b) = 5 + token_count p c + token_count p a + token_count p b
 token_count p (cast t a) = 3 + token_count p a
 

@@ -1,7 +1,21 @@
 ghost use Rattle.std.specs.Prelude.{◌≡◌, ◌+◌, ◌*◌, ◌^◌, ◌<◌, ◌≤◌, ◌&&◌, ◌||◌, ◌==◌, [], ℕ, map, false, not, length, slice_index_or, IfOk, if◌then◌else◌};
 ghost use Rattle.std.specs.List.{list_any};
 ghost use Rattle.soda_words.specs.Limits.{most_tensors};
-ghost use Rattle.soda_ir.specs.Counts.{IsCountable, count_below, distinct_count, is_input, is_output, is_reached, live_count, output_number, read_count, reads_in, some_below, sum_below, tensor_reads};
+ghost use Rattle.soda_ir.specs.Counts.{
+  IsCountable,
+  count_below,
+  distinct_count,
+  is_input,
+  is_output,
+  is_reached,
+  live_count,
+  output_number,
+  read_count,
+  reads_in,
+  some_below,
+  sum_below,
+  tensor_reads,
+};
 ghost use Rattle.soda_ir.specs.Points.{listed};
 ghost use Rattle.soda_ir.specs.Program.{plain};
 
@@ -14,10 +28,8 @@ use std::alloc::Global;
 
 // Marks what these reads read.
 fn mark(reads: &[Read], marks: &mut [bool])
-    ensures {
-        (y : ℕ) → y < length marks.old → slice_index_or marks.new y false
-            ≡ (slice_index_or marks.old y false || list_any (λ r. r.of == y) reads.now)
-    }
+    ensures { (y : ℕ) → y < length marks.old → slice_index_or marks.new y false
+        ≡ (slice_index_or marks.old y false || list_any (λ r. r.of == y) reads.now) }
 {
     for read in reads {
         let at = read.of as usize;
@@ -30,12 +42,10 @@ fn mark(reads: &[Read], marks: &mut [bool])
 // Marks what the tensors read that are marked and weren't before.
 fn mark_read(graph: &[Items<Read>], before: &[bool], marks: &[bool], next: &mut [bool])
     requires { length graph.now < 2 ^ 32 }
-    ensures {
-        (y : ℕ) → y < length next.old → slice_index_or next.new y false
-            ≡ (slice_index_or next.old y false
-            || some_below (λ x. (slice_index_or marks.now x false && not (slice_index_or before.now x false))
-            && reads_in graph.now x y) (length graph.now))
-    }
+    ensures { (y : ℕ) → y < length next.old → slice_index_or next.new y false
+        ≡ (slice_index_or next.old y false
+        || some_below (λ x. (slice_index_or marks.now x false && not (slice_index_or before.now x false))
+        && reads_in graph.now x y) (length graph.now)) }
 {
     for x in 0..graph.len() as u32 {
         if is_marked(marks, x) && !is_marked(before, x) {
@@ -52,13 +62,11 @@ fn next_marks(
     marks: &[bool],
 ) -> Result<Vec<bool>, NoMemory>
     requires { length graph.now < 2 ^ 32 }
-    ensures {
-        IfOk result (λ next. (length next.items ≡ length marks.now)
-            × ((y : ℕ) → y < length marks.now → slice_index_or next.items y false
-            ≡ (slice_index_or marks.now y false
-            || some_below (λ x. (slice_index_or marks.now x false && not (slice_index_or before.now x false))
-            && reads_in graph.now x y) (length graph.now))))
-    }
+    ensures { IfOk result (λ next. (length next.items ≡ length marks.now)
+        × ((y : ℕ) → y < length marks.now → slice_index_or next.items y false
+        ≡ (slice_index_or marks.now y false
+        || some_below (λ x. (slice_index_or marks.now x false && not (slice_index_or before.now x false))
+        && reads_in graph.now x y) (length graph.now)))) }
 {
     let mut next = Vec::from_slice(alloc, marks)?;
     mark_read(graph, before, marks, &mut next);
@@ -69,12 +77,10 @@ fn next_marks(
 fn reached(alloc: Global, graph: &[Items<Read>], wanted: &[bool]) -> Result<Vec<bool>, NoMemory>
     requires few { length graph.now < 2 ^ 32 }
     requires each { length wanted.now ≡ length graph.now }
-    ensures {
-        IfOk result (λ marks. (length marks.items ≡ length graph.now)
-            × ((y : ℕ) → y < length graph.now → slice_index_or marks.items y false
-            ≡ is_reached (reads_in graph.now) (length graph.now) (λ x. slice_index_or wanted.now x false)
-            (length graph.now) y))
-    }
+    ensures { IfOk result (λ marks. (length marks.items ≡ length graph.now)
+        × ((y : ℕ) → y < length graph.now → slice_index_or marks.items y false
+        ≡ is_reached (reads_in graph.now) (length graph.now) (λ x. slice_index_or wanted.now x false)
+        (length graph.now) y)) }
 {
     let mut before = Vec::new(alloc);
     let mut marks = Vec::from_slice(alloc, wanted)?;
@@ -105,11 +111,9 @@ fn outputs(alloc: Global, parts: &Parts) -> Result<Vec<bool>, NoMemory>
 // The outputs that the iteration after theirs needs, where it needs what is marked.
 fn outputs_needed(alloc: Global, parts: &Parts, needed: &[bool]) -> Result<Vec<bool>, NoMemory>
     requires { length parts.now.tensors < 2 ^ 32 }
-    ensures {
-        IfOk result (λ marks. marks.items
-            ≡ listed (λ x. is_output (plain parts.now) x
-            && slice_index_or needed.now (output_number (plain parts.now) x) false) (length parts.now.tensors))
-    }
+    ensures { IfOk result (λ marks. marks.items
+        ≡ listed (λ x. is_output (plain parts.now) x
+        && slice_index_or needed.now (output_number (plain parts.now) x) false) (length parts.now.tensors)) }
 {
     let mut marks = Vec::new(alloc);
     let mut number = 0;
@@ -159,10 +163,8 @@ fn is_counted(parts: &Parts, live: &[bool], tensor: u32) -> bool
 // How many locals and outputs are marked.
 fn statement_count(parts: &Parts, live: &[bool]) -> u64
     requires { length parts.now.tensors < 2 ^ 32 }
-    ensures value {
-        result ≡ count_below (λ x. not (is_input (plain parts.now) x) && slice_index_or live.now x false)
-            (length parts.now.tensors)
-    }
+    ensures value { result ≡ count_below (λ x. not (is_input (plain parts.now) x) && slice_index_or live.now x false)
+        (length parts.now.tensors) }
     ensures most { result ≤ length parts.now.tensors }
 {
     let mut count = 0;
@@ -199,10 +201,8 @@ fn size_if(test: bool, sizes: &[u64], tensor: u32) -> u64
 // How many reads the marked locals and outputs have.
 fn statement_reads(parts: &Parts, live: &[bool], sizes: &[u64]) -> u128
     requires { length parts.now.tensors ≤ most_tensors }
-    ensures value {
-        result ≡ sum_below (λ x. if not (is_input (plain parts.now) x) && slice_index_or live.now x false
-            then slice_index_or sizes.now x 0 else 0) (length parts.now.tensors)
-    }
+    ensures value { result ≡ sum_below (λ x. if not (is_input (plain parts.now) x) && slice_index_or live.now x false
+        then slice_index_or sizes.now x 0 else 0) (length parts.now.tensors) }
     ensures most { result ≤ 2 ^ 64 * most_tensors }
 {
     let mut count = 0;
@@ -239,8 +239,9 @@ pub(crate) fn tally(alloc: Global, parts: &Parts) -> Result<Totals, NoMemory>
     Ok(Totals { live, reads })
 }
 
-/// How many live tensors a program of these parts has: the inputs of its first iteration, and the live locals and outputs
-/// of all its iterations. Its cells are there and near, and the limits `iterate`, `dims`, `tile` and `tensors` are kept.
+/// How many live tensors a program of these parts has: the inputs of its first iteration, and the live locals and
+/// outputs of all its iterations. Its cells are there and near, and the limits `iterate`, `dims`, `tile` and `tensors`
+/// are kept.
 pub fn live_count(alloc: Global, parts: &Parts) -> Result<u64, NoMemory>
     requires { IsCountable (plain parts.now) }
     ensures { IfOk result (λ count. count ≡ live_count (plain parts.now)) }
@@ -248,9 +249,9 @@ pub fn live_count(alloc: Global, parts: &Parts) -> Result<u64, NoMemory>
     Ok(tally(alloc, parts)?.live)
 }
 
-/// How many reads the live locals and outputs of a program of these parts have, over all its iterations: each pair of what
-/// is read and how far away, once for a reader. Its cells are there and near, and the limits `iterate`, `dims`, `tile` and
-/// `tensors` are kept.
+/// How many reads the live locals and outputs of a program of these parts have, over all its iterations: each pair of
+/// what is read and how far away, once for a reader. Its cells are there and near, and the limits `iterate`, `dims`,
+/// `tile` and `tensors` are kept.
 pub fn read_count(alloc: Global, parts: &Parts) -> Result<u128, NoMemory>
     requires { IsCountable (plain parts.now) }
     ensures { IfOk result (λ count. count ≡ read_count (plain parts.now)) }

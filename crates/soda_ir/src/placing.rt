@@ -43,10 +43,8 @@ pub(crate) fn is_marked(marks: &[bool], tensor: u32) -> bool
 // Whether all that a tensor reads is marked.
 fn is_ready(parts: &Parts, marks: &[bool], tensor: u32) -> bool
     requires { tensor < length parts.now.tensors }
-    ensures {
-        result ≡ tensor_is (λ t. by_formula t.formula true (every (λ y o. slice_index_or marks.now y false)))
-            (plain parts.now) tensor
-    }
+    ensures { result ≡ tensor_is (λ t. by_formula t.formula true (every (λ y o. slice_index_or marks.now y false)))
+        (plain parts.now) tensor }
 {
     match parts.formula(tensor) {
         Some(formula) => reads_marked(formula, marks),
@@ -57,11 +55,9 @@ fn is_ready(parts: &Parts, marks: &[bool], tensor: u32) -> bool
 // The tensors that can be placed in one round more.
 fn next_round(alloc: Global, parts: &Parts, marks: &[bool]) -> Result<Vec<bool>, NoMemory>
     requires { length parts.now.tensors < 2 ^ 32 }
-    ensures {
-        IfOk result (λ next. next.items
-            ≡ listed (λ x. tensor_is (λ t. by_formula t.formula true (every (λ y o. slice_index_or marks.now y false)))
-            (plain parts.now) x) (length parts.now.tensors))
-    }
+    ensures { IfOk result (λ next. next.items
+        ≡ listed (λ x. tensor_is (λ t. by_formula t.formula true (every (λ y o. slice_index_or marks.now y false)))
+        (plain parts.now) x) (length parts.now.tensors)) }
 {
     let mut next = Vec::new(alloc);
     for tensor in 0..parts.tensors.len() as u32 {
@@ -94,10 +90,8 @@ fn place_in_order(parts: &Parts, order: &[u32], marks: &mut [bool])
 // Marks of tensors that can be placed: of all of them, where the order that is proposed is a good one.
 fn placed_in_order(alloc: Global, parts: &Parts) -> Result<Vec<bool>, NoMemory>
     requires { length parts.now.tensors < 2 ^ 32 }
-    ensures {
-        IfOk result (λ marks. (x : ℕ) → slice_index_or marks.items x false ≡ true → can_be_placed (plain parts.now) x
-            ≡ true)
-    }
+    ensures { IfOk result (λ marks. (x : ℕ) → slice_index_or marks.items x false ≡ true
+        → can_be_placed (plain parts.now) x ≡ true) }
 {
     let order = placing_order(alloc, parts)?;
     let mut marks = no_marks(alloc, parts.tensors.len())?;
@@ -105,13 +99,12 @@ fn placed_in_order(alloc: Global, parts: &Parts) -> Result<Vec<bool>, NoMemory>
     Ok(marks)
 }
 
-/// Which tensors can be placed: the inputs, and each local and output whose reads can all be placed. There are fewer than
-/// 2^32 tensors.
+/// Which tensors can be placed: the inputs, and each local and output whose reads can all be placed. There are fewer
+/// than 2^32 tensors.
 pub fn placed_tensors(alloc: Global, parts: &Parts) -> Result<Vec<bool>, NoMemory>
     requires { length parts.now.tensors < 2 ^ 32 }
-    ensures {
-        IfOk result (λ placed. (x : ℕ) → slice_index_or placed.items x false ≡ can_be_placed (plain parts.now) x)
-    }
+    ensures { IfOk result (λ placed. (x : ℕ) → slice_index_or placed.items x false
+        ≡ can_be_placed (plain parts.now) x) }
 {
     let mut placed = placed_in_order(alloc, parts)?;
     for round in 0..parts.tensors.len() {
@@ -128,10 +121,8 @@ pub fn placed_tensors(alloc: Global, parts: &Parts) -> Result<Vec<bool>, NoMemor
 /// Whether each tensor can be placed.
 pub(crate) fn are_all_placed(alloc: Global, parts: &Parts) -> Result<bool, NoMemory>
     requires { length parts.now.tensors < 2 ^ 32 }
-    ensures {
-        IfOk result (λ all. IsTrue all ↔ ((x : ℕ) → x < length parts.now.tensors → can_be_placed (plain parts.now) x
-            ≡ true))
-    }
+    ensures { IfOk result (λ all. IsTrue all ↔ ((x : ℕ) → x < length parts.now.tensors
+        → can_be_placed (plain parts.now) x ≡ true)) }
 {
     let placed = placed_tensors(alloc, parts)?;
     for tensor in 0..parts.tensors.len() as u32 {

@@ -123,7 +123,8 @@ impl Model for Program {
 }
 
 impl Program {
-    /// The program of these parts. `Invalid` comes exactly where they are no valid program; a refusal lets the parts go.
+    /// The program of these parts. `Invalid` comes exactly where they are no valid program; a refusal lets the parts
+    /// go.
     pub fn make(alloc: Global, parts: Parts) -> Result<Program, MakeRefusal>
         ensures made { IfOk result (λ program. program ≡ parts) }
         ensures valid { IfOk result (λ program. IsValid (plain program)) }
@@ -188,10 +189,8 @@ impl Parts {
 
     /// The formula of a tensor, and None for an input and past the last tensor.
     pub fn formula(&self, tensor: u32) -> Option<&Expr>
-        ensures {
-            option_map (λ f. formula_of f.now) result
-                ≡ slice_index_or (map (λ t. t.formula) (plain self.now).tensors) tensor None
-        }
+        ensures { option_map (λ f. formula_of f.now) result
+            ≡ slice_index_or (map (λ t. t.formula) (plain self.now).tensors) tensor None }
     {
         match self.tensors.get(tensor as usize) {
             Some(tensor) => match &tensor.formula {

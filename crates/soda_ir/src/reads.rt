@@ -2,7 +2,18 @@ ghost use Rattle.std.specs.Prelude.{◌≡◌, ◌&&◌, ◌+◌, ◌*◌, ◌^�
 ghost use Rattle.std.specs.List.{list_any};
 ghost use Rattle.soda_words.specs.Limits.{most_offset};
 ghost use Rattle.soda_ir.specs.Formula.{by_formula, every};
-ghost use Rattle.soda_ir.specs.Counts.{IsCountable, border_reads, distinct_count, formula_in, formula_reads, is_output, is_same_read, output_number, reach, tensor_reads};
+ghost use Rattle.soda_ir.specs.Counts.{
+  IsCountable,
+  border_reads,
+  distinct_count,
+  formula_in,
+  formula_reads,
+  is_output,
+  is_same_read,
+  output_number,
+  reach,
+  tensor_reads,
+};
 ghost use Rattle.soda_ir.specs.Points.{linear, listed};
 ghost use Rattle.soda_ir.specs.Program.{extents_at, plain, preserves};
 ghost use Rattle.soda_ir.specs.Tree.{formula_of};
@@ -72,9 +83,8 @@ fn add(reads: &mut Vec<Read>, read: Read) -> Result<(), NoMemory>
 fn collect(expr: &Expr, extents: &[u64], reads: &mut Vec<Read>) -> Result<(), NoMemory>
     requires near { every (λ t o. is_near o) (formula_of expr.now) ≡ true }
     requires small { reach extents.now ≤ 2 ^ 26 }
-    ensures {
-        OnOk result (reads.new.items ≡ reads.old.items ++ formula_reads (extents.now ++ 1 ∷ []) (formula_of expr.now))
-    }
+    ensures { OnOk result (reads.new.items ≡ reads.old.items
+        ++ formula_reads (extents.now ++ 1 ∷ []) (formula_of expr.now)) }
 {
     match expr {
         Expr::Num(_) => Ok(()),
@@ -132,10 +142,8 @@ fn has_border(parts: &Parts, tensor: u32) -> bool
 // Adds the reads of a tensor's formula.
 fn add_formula(parts: &Parts, tensor: u32, reads: &mut Vec<Read>) -> Result<(), NoMemory>
     requires { IsCountable (plain parts.now) }
-    ensures {
-        OnOk result (reads.new.items ≡ reads.old.items
-            ++ by_formula (formula_in (plain parts.now) tensor) [] (formula_reads (extents_at (plain parts.now) 1)))
-    }
+    ensures { OnOk result (reads.new.items ≡ reads.old.items
+        ++ by_formula (formula_in (plain parts.now) tensor) [] (formula_reads (extents_at (plain parts.now) 1))) }
 {
     match parts.formula(tensor) {
         Some(formula) => collect(formula, parts.extents.as_slice(), reads),

@@ -20,12 +20,10 @@ fn add_name<'a>(table: &mut NameTable<'a>, name: &'a [u8]) -> Result<bool, NoMem
 // Adds the names of params, as long as all are such names, and says whether they are.
 fn add_params<'a>(table: &mut NameTable<'a>, params: &'a [Param]) -> Result<bool, NoMemory>
     requires { are_free_names table.now ≡ true }
-    ensures added {
-        IfOk result (λ free. free ≡ true → table.new ≡ table.old ++ map (λ q. q.name) (map plain_param params.now))
-    }
-    ensures free {
-        IfOk result (λ free. free ≡ are_free_names (table.old ++ map (λ q. q.name) (map plain_param params.now)))
-    }
+    ensures added { IfOk result (λ free. free ≡ true → table.new ≡ table.old
+        ++ map (λ q. q.name) (map plain_param params.now)) }
+    ensures free { IfOk result (λ free. free
+        ≡ are_free_names (table.old ++ map (λ q. q.name) (map plain_param params.now))) }
 {
     for param in params {
         let free = add_name(table, param.name.as_slice())?;
@@ -39,9 +37,8 @@ fn add_params<'a>(table: &mut NameTable<'a>, params: &'a [Param]) -> Result<bool
 // The same of tensors.
 fn add_tensors<'a>(table: &mut NameTable<'a>, tensors: &'a [Tensor]) -> Result<bool, NoMemory>
     requires { are_free_names table.now ≡ true }
-    ensures {
-        IfOk result (λ free. free ≡ are_free_names (table.old ++ map (λ t. t.name) (map plain_tensor tensors.now)))
-    }
+    ensures { IfOk result (λ free. free
+        ≡ are_free_names (table.old ++ map (λ t. t.name) (map plain_tensor tensors.now))) }
 {
     for tensor in tensors {
         let free = add_name(table, tensor.name.as_slice())?;
@@ -58,10 +55,8 @@ pub(crate) fn are_names_free(
     params: &[Param],
     tensors: &[Tensor],
 ) -> Result<bool, NoMemory>
-    ensures {
-        IfOk result (λ free. free
-            ≡ are_free_names (names_of (map plain_param params.now) (map plain_tensor tensors.now)))
-    }
+    ensures { IfOk result (λ free. free
+        ≡ are_free_names (names_of (map plain_param params.now) (map plain_tensor tensors.now))) }
 {
     let mut table = NameTable::new(alloc);
     if !add_params(&mut table, params)? {

@@ -36,9 +36,8 @@ fn is_good_place(parts: &Parts, param: u32, place: u32) -> bool
 
 #[tactic(auto, using(crate::proofs::CallerLemmas::levels))]
 fn names_what_is_there(parts: &Parts, expr: &Expr) -> bool
-    ensures {
-        result ≡ each_use (is_good_cell (plain parts.now)) (is_good_place (plain parts.now)) (formula_of expr.now)
-    }
+    ensures { result ≡ each_use (is_good_cell (plain parts.now)) (is_good_place (plain parts.now))
+        (formula_of expr.now) }
 {
     match expr {
         Expr::Num(_) => true,

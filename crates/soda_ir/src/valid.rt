@@ -5,7 +5,17 @@ ghost use Rattle.soda_words.specs.Limits.{least_burst, most_burst, most_dims, mo
 ghost use Rattle.soda_ir.specs.Counts.{is_input_role, is_output_role};
 ghost use Rattle.soda_ir.specs.Points.{size};
 ghost use Rattle.soda_ir.specs.Program.{input_types, plain, plain_param, plain_tensor};
-ghost use Rattle.soda_ir.specs.Valid.{cell_size, fills_burst, has_formula_if_no_input, has_good_uses, has_inputs_first, is_good_param, is_small, output_types, value_count};
+ghost use Rattle.soda_ir.specs.Valid.{
+  cell_size,
+  fills_burst,
+  has_formula_if_no_input,
+  has_good_uses,
+  has_inputs_first,
+  is_good_param,
+  is_small,
+  output_types,
+  value_count,
+};
 
 use crate::NoMemory;
 use crate::params::{product, value_count};
@@ -19,10 +29,8 @@ use std::alloc::Global;
 
 /// Whether the unroll factor and the number of iterations are within their limits.
 pub(crate) fn has_good_factors(parts: &Parts) -> bool
-    ensures {
-        result ≡ (nat_le 1 parts.now.unroll && nat_le parts.now.unroll most_unroll && nat_le 1 parts.now.iterate
-            && nat_le parts.now.iterate most_iterate)
-    }
+    ensures { result ≡ (nat_le 1 parts.now.unroll && nat_le parts.now.unroll most_unroll && nat_le 1 parts.now.iterate
+        && nat_le parts.now.iterate most_iterate) }
 {
     1 <= parts.unroll
         && parts.unroll <= MOST_UNROLL
@@ -39,9 +47,8 @@ pub(crate) fn has_good_burst(parts: &Parts) -> bool
 
 /// Whether the numbers of dimensions and of tensors are within their limits.
 pub(crate) fn has_few_of_each(parts: &Parts) -> bool
-    ensures {
-        result ≡ (nat_le (suc (length parts.now.extents)) most_dims && nat_le (length parts.now.tensors) most_tensors)
-    }
+    ensures { result ≡ (nat_le (suc (length parts.now.extents)) most_dims
+        && nat_le (length parts.now.tensors) most_tensors) }
 {
     parts.extents.len() < MOST_DIMS && parts.tensors.len() <= MOST_TENSORS
 }
@@ -196,10 +203,8 @@ fn types_out(alloc: Global, tensors: &[Tensor]) -> Result<Vec<Ty>, NoMemory>
 
 /// Whether there are as many inputs as outputs, of equal types in order.
 pub fn outputs_fit(alloc: Global, tensors: &[Tensor]) -> Result<bool, NoMemory>
-    ensures {
-        IfOk result (λ fit. IsTrue fit ↔ (input_types (map plain_tensor tensors.now)
-            ≡ output_types (map plain_tensor tensors.now)))
-    }
+    ensures { IfOk result (λ fit. IsTrue fit ↔ (input_types (map plain_tensor tensors.now)
+        ≡ output_types (map plain_tensor tensors.now))) }
 {
     let inputs = types_in(alloc, tensors)?;
     let outputs = types_out(alloc, tensors)?;

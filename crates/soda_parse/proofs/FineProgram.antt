@@ -18,7 +18,7 @@ use Rattle.soda_parse.specs.ProgramConditions.{are_same_types, bad_burst, circul
 use Rattle.soda_parse.specs.Meaning.{tile_items}
 use Rattle.soda_parse.specs.Text.{count_refusal, late_refusal, names_refusal, refusal_by, shape_refusal, size_refusal, statement_refusal, use_refusal}
 use Rattle.soda_print.specs.Sized.{IsSizedProgram}
-use Rattle.soda_print.proofs.CallerLemmas.{positive, some}
+use Rattle.soda_print.proofs.CallerLemmas.{count_cons, positive, some}
 use Rattle.soda_formula.specs.declared.statement.Extent.{Extent}
 use Rattle.soda_formula.specs.declared.statement.Extent.TheVariants.{Fixed, Open}
 use Rattle.soda_formula.specs.declared.statement.InputLine.{InputLine}
@@ -29,7 +29,6 @@ use Rattle.soda_parse.proofs.ReadProgram.{names_are, outline, program_back, tens
 use Rattle.soda_parse.proofs.SameTypes.{both_of, decided}
 use Rattle.soda_parse.proofs.Statements.{AreDefined, none_defined, a_local, an_output, AreOrdered, no_input, an_input, declared_from, statements_of, tensors_from, tile_of}
 use Rattle.soda_parse.proofs.Truths.{le_true}
-use Rattle.soda_parse.proofs.Places.{count_cons}
 use Rattle.std.proofs.lemmas.List.{length-map}
 
 -- each local and output can be placed

@@ -29,7 +29,7 @@ use Rattle.soda_formula.specs.declared.statement.ParamLine.{ParamLine}
 use Rattle.soda_formula.specs.declared.statement.Size.{Size}
 use Rattle.soda_words.specs.declared.token.Word.{Word}
 use Rattle.std.proofs.lemmas.Bool.{ltb-true}
-use Rattle.soda_print.proofs.CallerLemmas.{count_there}
+use Rattle.soda_print.proofs.CallerLemmas.{count_cons, count_there}
 
 not_past : (n : ℕ) → nat_lt 65536 n ≡ false → n ≤ 65536
 not_past n e = grind (arith, nat_tests, e)
@@ -45,10 +45,6 @@ one_small b [] e = not_past (b + 1) (none_here (λ (m : ℕ). nat_lt 65536 m) (b
 one_small b (k ∷ ks) e =
     let here = none_here (λ (m : ℕ). nat_lt 65536 m) (b + 1 * k) (map (λ m. b + m) (partial_products (1 * k) ks)) e in
     subst (λ (m : ℕ). b + m ≤ 65536) (ap (λ (m : ℕ). m * size ks) (one-mul k)) (sum_small b (1 * k) ks (not_past (b + 1 * k) here.0) here.1)
-
--- the values of params are those of the first and of the others
-pub count_cons : (q : PlainParam) (qs : List PlainParam) → value_count (q ∷ qs) ≡ size q.sizes + value_count qs
-count_cons q qs = sum_by-cons (λ (r : PlainParam). size r.sizes) q qs
 
 -- all params together have few values
 pub values_small : (b : ℕ) (qs : List PlainParam) → b ≤ 65536 → values_past b qs ≡ None → b + value_count qs ≤ 65536

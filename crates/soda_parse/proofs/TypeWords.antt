@@ -7,7 +7,7 @@ use Rattle.std.proofs.lemmas.Fmt.{digits_value-decimal}
 use Rattle.soda_words.specs.IntType.{IntType, IsType, int32}
 use Rattle.soda_checks.specs.Types.{is_float, type_behind, type_of, width_of}
 use Rattle.soda_print.specs.Canonical.{type_text}
-use Rattle.soda_print.proofs.CallerLemmas.{number_is, own}
+use Rattle.soda_words.proofs.CallerLemmas.{number_is, own}
 use Rattle.soda_words.specs.Names.{behind}
 use Rattle.soda_words.specs.Tokens.{or_else, value_behind}
 use Rattle.soda_parse.proofs.Back.{IsTyped}

@@ -18,7 +18,8 @@ use Rattle.soda_ir.specs.Uses.{each_use, is_good_cell, is_good_place}
 use Rattle.soda_ir.specs.Written.{left_pairs, level_of, operand_pairs, pairs_round, right_pairs}
 use Rattle.soda_print.specs.Canonical.{indexes, tensor_name, type_text}
 use Rattle.soda_print.specs.Sized.{IsSized}
-use Rattle.soda_print.proofs.CallerLemmas.{behind_comma_tokens, binary_tokens, call_tokens, component_tokens, formula_tokens, index_tokens, listed_tokens, number_is, on_line, pair_tokens, unary_tokens}
+use Rattle.soda_words.proofs.CallerLemmas.{number_is}
+use Rattle.soda_print.proofs.CallerLemmas.{behind_comma_tokens, binary_tokens, call_tokens, component_tokens, formula_tokens, index_tokens, listed_tokens, on_line, pair_tokens, unary_tokens}
 use Rattle.soda_words.specs.Names.{is_cast_word, is_reserved, is_some_digits}
 use Rattle.soda_words.specs.Tokens.{begins_with_zero, value_behind}
 use Rattle.soda_words.specs.declared.symbol.Symbol.{Symbol}

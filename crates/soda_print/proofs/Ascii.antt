@@ -12,12 +12,13 @@ use Rattle.soda_words.specs.declared.operators.BinOp.TheVariants.{LogOr, LogAnd,
 use Rattle.soda_ir.specs.Formula.{Formula, number, read, param, unary, binary, choice, cast}
 use Rattle.soda_ir.specs.Program.{PlainParam, PlainProgram, PlainTensor}
 use Rattle.soda_ir.specs.Written.{left_pairs, operand_pairs, right_pairs}
+use Rattle.soda_words.proofs.CallerLemmas.{digits_words, own}
 use Rattle.soda_words.specs.Names.{begins_name, is_digit, is_letter, is_name, is_word_byte}
 use Rattle.soda_words.specs.Tokens.{in_comment_behind, line_behind, not_ascii, not_ascii_from}
-use Rattle.soda_print.specs.Canonical.{behind_commas, binary_text, binary_word, border_word, canonical, canonical_lines, ended, formula_text, headed, in_pairs, indexes, indexes_text, left_text, listed, param_line, parted, role_word, setting_lines, tensor_line, tensor_name, tile_text, type_text, unary_text, unary_word, value_text}
+use Rattle.soda_print.specs.Canonical.{behind_commas, binary_text, binary_word, border_word, canonical, canonical_lines, ended, formula_text, headed, in_pairs, indexes, indexes_text, left_text, listed, param_line, parted, role_word, setting_lines, tensor_line, tensor_name, tile_text, type_text, unary_text, value_text}
 use Rattle.soda_print.proofs.Read.{AreParams, AreSettings, AreTensors, IsBody, IsReadBack, border_named, role_named}
 use Rattle.soda_words.specs.IntType.{IntType}
-use Rattle.soda_print.proofs.Tokens.{are_word_bytes, digits_words, own}
+use Rattle.soda_print.proofs.Tokens.{are_word_bytes}
 use Rattle.soda_print.proofs.Tokenized.{AreSmall, AreWords, IsValueThere, IsWritable, value_is}
 
 abbrev pub are_ascii : List ℕ → Bool

@@ -1,5 +1,5 @@
 -- The canonical texts of a program and of formulas, by computation.
-use Rattle.std.proofs.Common.{◌≡◌, ℕ, true, false, List, [], ◌∷◌, Some, None, ℤ, pos, negsuc, codes, refl}
+use Rattle.std.proofs.Common.{◌≡◌, ℕ, true, false, List, [], ◌∷◌, ◌++◌, Some, None, ℤ, pos, negsuc, codes, refl}
 use Rattle.std.specs.Fmt.{digits}
 use Rattle.soda_words.specs.IntType.{IntType}
 use Rattle.soda_words.specs.declared.operators.UnOp.TheVariants.{Plus, Minus, Flip, Not, Abs}
@@ -39,7 +39,9 @@ avg = record {
 }
 
 -- the seven lines of an average
-avg-text : canonical avg ≡ codes "kernel: avg\nburst width: 8\nunroll factor: 1\niterate: 1\nborder: ignore\ninput uint8: a(*)\noutput uint8: o(0) = (a(-1) + a(0) + a(1)) / 3\n"
+avg-text : canonical avg
+    ≡ codes "kernel: avg\nburst width: 8\nunroll factor: 1\niterate: 1\nborder: ignore\n"
+    ++ codes "input uint8: a(*)\noutput uint8: o(0) = (a(-1) + a(0) + a(1)) / 3\n"
 unfolding digits canonical unary_text binary_text tensor_name value_text type_text role_word border_word
 avg-text = refl
 
@@ -66,7 +68,9 @@ wide f = record {
 }
 
 wide-text : canonical (wide y)
-    ≡ codes "kernel: wide\nburst width: 64\nunroll factor: 2\niterate: 3\nborder: preserve\nparam int16: c\nparam int16: v[5]\nparam uint8: m[3][4]\ninput uint8: x(2000, *)\nlocal int16: y(0, 0) = x(-1, 20)\noutput uint8: z(0, 0) = y(0, 0)\n"
+    ≡ codes "kernel: wide\nburst width: 64\nunroll factor: 2\niterate: 3\nborder: preserve\n"
+    ++ codes "param int16: c\nparam int16: v[5]\nparam uint8: m[3][4]\n"
+    ++ codes "input uint8: x(2000, *)\nlocal int16: y(0, 0) = x(-1, 20)\noutput uint8: z(0, 0) = y(0, 0)\n"
 unfolding digits canonical unary_text binary_text tensor_name value_text type_text role_word border_word
 wide-text = refl
 

@@ -14,11 +14,12 @@ use Rattle.soda_ir.specs.Points.{size}
 use Rattle.soda_ir.specs.Program.{PlainParam, PlainProgram, PlainTensor}
 use Rattle.soda_ir.specs.Uses.{each_use, is_good_cell, is_good_place, is_near}
 use Rattle.soda_ir.specs.Valid.{IsValid, KeepsLimits, are_free_names, has_good_uses, is_good_param, names_of, value_count}
+use Rattle.soda_words.proofs.CallerLemmas.{digits_words, own}
 use Rattle.soda_words.specs.Names.{is_free_name, is_name, is_reserved, is_word}
 use Rattle.soda_words.specs.Tokens.{tokens_of}
 use Rattle.soda_print.specs.Canonical.{canonical, indexes, tensor_name, type_text}
 use Rattle.soda_print.specs.Sized.{AreSizedParams, AreSizedTensors, IsSized, IsSizedProgram}
-use Rattle.soda_print.proofs.Tokens.{are_word_bytes, digits_words, own}
+use Rattle.soda_print.proofs.Tokens.{are_word_bytes}
 use Rattle.soda_print.proofs.Tokenized.{AreSmall, AreWords, IsValueThere, IsWritable}
 use Rattle.soda_print.proofs.Read.{AreParams, AreSettings, AreTensors, IsBody, IsParam, IsReadBack, IsTensor, canonical_lex, canonical_tokens, placed_lines}
 
@@ -42,6 +43,7 @@ nonzero n = not (n == 0)
 pub some : (n : ℕ) → nonzero n ≡ true → 1 ≤ n
 some n h = grind (arith, nat_tests)
 
+-- the product of sizes that are not 0 is not 0
 pub positive : (ns : List ℕ) → list_all nonzero ns ≡ true → 1 ≤ size ns
 positive [] h = omega arith
 positive (n ∷ ns) h =
@@ -163,9 +165,11 @@ writable p (choice c a b) qs ts u s small =
     )
 writable p (cast t a) qs ts u s small = (type_named t s.0, writable p a qs ts u s.1 small)
 
-count_cons : (q : PlainParam) (qs : List PlainParam) → value_count (q ∷ qs) ≡ size q.sizes + value_count qs
+-- the values of one param and of those after it
+pub count_cons : (q : PlainParam) (qs : List PlainParam) → value_count (q ∷ qs) ≡ size q.sizes + value_count qs
 count_cons q qs = sum_by-cons (λ (r : PlainParam). size r.sizes) q qs
 
+-- a param has no more values than all params together
 pub count_there : (qs : List PlainParam) (k : ℕ) (q : PlainParam) → slice_get qs k ≡ Some q → size q.sizes ≤ value_count qs
 count_there [] k q e = cc
 count_there (r ∷ qs) zero q e =

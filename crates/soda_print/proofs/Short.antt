@@ -21,7 +21,7 @@ use Rattle.soda_ir.specs.declared.program.Border.TheVariants.{Ignore, Preserve}
 use Rattle.soda_ir.specs.declared.program.Role.{Role}
 use Rattle.soda_ir.specs.declared.program.Role.TheVariants.{Input, Local, Output}
 use Rattle.soda_words.specs.Names.{begins_name, is_name, is_word_byte}
-use Rattle.soda_print.specs.Canonical.{behind_commas, binary_text, binary_word, border_word, canonical, ended, formula_text, headed, in_pairs, indexes, indexes_text, left_text, listed, param_line, parted, role_word, setting_lines, tensor_line, tensor_name, tile_text, type_text, unary_text, unary_word, value_text}
+use Rattle.soda_print.specs.Canonical.{behind_commas, binary_text, border_word, canonical, ended, formula_text, headed, in_pairs, indexes, indexes_text, left_text, listed, param_line, parted, role_word, setting_lines, tensor_line, tensor_name, tile_text, type_text, unary_text, value_text}
 use Rattle.soda_print.specs.Sized.{IsSizedProgram}
 use Rattle.soda_print.proofs.Read.{AreParams, AreSettings, AreTensors, IsBody, IsReadBack}
 use Rattle.soda_print.proofs.Readable.{positive, readable}
@@ -75,6 +75,7 @@ few_by : (z : Bool) (i j n : ℕ) → 2 ≤ n → length (if z then [] else i �
 few_by true i j n h = omega arith
 few_by false i j n h = omega arith
 
+-- a place has no more indexes than its param has sizes
 pub few_indexes : (ns : List ℕ) (i : ℕ) → length (indexes ns i) ≤ length ns
 few_indexes [] i = omega arith
 few_indexes (n ∷ []) i = omega arith

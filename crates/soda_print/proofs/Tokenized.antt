@@ -14,7 +14,7 @@ use Rattle.soda_words.specs.declared.token.Token.TheVariants.{Name, Number, Sign
 use Rattle.soda_ir.specs.Formula.{Formula, number, read, param, unary, binary, choice, cast}
 use Rattle.soda_ir.specs.Program.{PlainParam, PlainProgram}
 use Rattle.soda_ir.specs.Written.{left_pairs, operand_pairs, right_pairs}
-use Rattle.soda_print.specs.Canonical.{behind_commas, binary_text, binary_word, formula_text, in_pairs, indexes, indexes_text, listed, parted, tensor_name, type_text, unary_text, unary_word, value_text}
+use Rattle.soda_print.specs.Canonical.{behind_commas, binary_text, binary_word, formula_text, in_pairs, indexes, indexes_text, listed, parted, tensor_name, type_text, unary_text, value_text}
 use Rattle.soda_print.proofs.Tokens.{BeginsOther, Stops, bang_first, blank_first, close_first, close_square_first, comma_first, minus_first, name_begins, name_first, number_begins, number_first, on_line, open_first, open_square_first, plus_first, tilde_first}
 
 -- these are the tokens of a text, whatever follows

@@ -1,13 +1,13 @@
 -- The tokens of a text that is put together part by part.
-use Rattle.std.proofs.Common.{◌≡◌, ℕ, zero, suc, ◌<◌, ◌^◌, ◌==◌, Bool, true, false, not, ◌&&◌, ◌||◌, nat_le, nat_lt, lit<, List, [], ◌∷◌, ◌++◌, length, get_or, Some, refl, sym, ap, ◌∙◌, arith, rules, cond, inl, inr, if◌then◌else◌, lt-ltb}
+use Rattle.std.proofs.Common.{◌≡◌, ℕ, suc, ◌<◌, ◌^◌, ◌==◌, Bool, true, false, ◌&&◌, ◌||◌, nat_le, nat_lt, lit<, List, [], ◌∷◌, ◌++◌, length, Some, refl, sym, ap, ◌∙◌, arith, cond, inl, inr, if◌then◌else◌}
 use Rattle.std.specs.Fmt.{decimal}
 use Rattle.std.specs.List.{list_all}
-use Rattle.std.proofs.lemmas.Bool.{and_from, and_parts, eqb-true, or_left, or_right}
+use Rattle.std.proofs.lemmas.Bool.{and_from, and_parts, or_left}
 use Rattle.std.proofs.lemmas.Bool.Decides.{eqb_tells, nat_tests}
-use Rattle.std.proofs.lemmas.Fmt.{decimal_digit, decimal_nonempty, digits_decimal, digits_value-decimal, first_decimal}
-use Rattle.std.proofs.lemmas.Str.Parse.{IsNumeralModel, numerals_by_fold}
-use Rattle.soda_words.specs.Names.{begins_name, is_digit, is_name, is_some_digits, is_word_byte}
-use Rattle.soda_words.specs.Tokens.{Front, begins_with_zero, first_word, front_of, is_number, is_white, line_behind, placed, tokens_behind, value_behind, word_token}
+use Rattle.std.proofs.lemmas.Fmt.{decimal_nonempty, digits_decimal, digits_value-decimal}
+use Rattle.soda_words.proofs.CallerLemmas.{digits_words, number_is, own}
+use Rattle.soda_words.specs.Names.{begins_name, is_digit, is_name, is_word_byte}
+use Rattle.soda_words.specs.Tokens.{Front, first_word, front_of, is_number, is_white, line_behind, placed, tokens_behind, value_behind, word_token}
 use Rattle.soda_words.specs.declared.symbol.Symbol.TheVariants.{OpenRound, CloseRound, OpenSquare, CloseSquare, Comma, Colon, PlusSign, MinusSign, Tilde, Bang}
 use Rattle.soda_words.specs.declared.token.Placed.{Placed}
 use Rattle.soda_words.specs.declared.token.Token.{Token}
@@ -130,41 +130,6 @@ pub tilde_first : (rest : List ℕ) (line : ℕ) → tokens_behind 0 line (126 �
 unfolding tokens_behind front_of
 tilde_first [] line = refl
 tilde_first (b ∷ bs) line = refl
-
--- numbers
-pub own : IsNumeralModel (λ ds. list_all is_digit ds ≡ true) (value_behind 0)
-own = numerals_by_fold _ (search rules) value_behind (search rules)
-
-pub digits_words : (ds : List ℕ) → list_all is_digit ds ≡ true → are_word_bytes ds ≡ true
-digits_words [] h = refl
-digits_words (d ∷ ds) h =
-    and_from (begins_name d || is_digit d) (are_word_bytes ds)
-    (or_right (begins_name d) (is_digit d) ((and_parts (is_digit d) (list_all is_digit ds) h).0))
-    (digits_words ds ((and_parts (is_digit d) (list_all is_digit ds) h).1))
-
-some_digits : (ds : List ℕ) → list_all is_digit ds ≡ true → 0 < length ds → is_some_digits ds ≡ true
-some_digits [] h lt = absurd (omega arith)
-some_digits (d ∷ ds) h lt = h
-
-no_zero_first : (ds : List ℕ) → 48 < get_or ds 0 0 → (not (begins_with_zero ds) || length ds == 1) ≡ true
-no_zero_first [] h = absurd (omega arith)
-no_zero_first (d ∷ ds) h =
-    elim (d == 48) as (λ t. (d == 48) ≡ t → (not t || length (d ∷ ds) == 1) ≡ true) [
-      | true ↦ λ q. absurd (omega (arith, eqb-true d 48 q))
-      | false ↦ λ q. refl
-    ] refl
-
-one_zero : (n : ℕ) → n < 2 ^ 64 → (not (begins_with_zero (decimal n)) || length (decimal n) == 1) ≡ true
-one_zero zero h = ap (λ (ds : List ℕ). not (begins_with_zero ds) || length ds == 1) (decimal_digit 0 (omega arith))
-one_zero (suc n) h = no_zero_first (decimal (suc n)) (first_decimal (suc n) (omega arith) h)
-
-pub number_is : (n : ℕ) → n < 2 ^ 64 → is_number (decimal n) ≡ true
-number_is n h =
-    and_from (is_some_digits (decimal n) && (not (begins_with_zero (decimal n)) || length (decimal n) == 1))
-    (nat_lt (value_behind 0 (decimal n)) (2 ^ 64))
-    (and_from (is_some_digits (decimal n)) (not (begins_with_zero (decimal n)) || length (decimal n) == 1)
-    (some_digits (decimal n) (digits_decimal own n h) (decimal_nonempty n h)) (one_zero n h))
-    (lt-ltb (value_behind 0 (decimal n)) (2 ^ 64) (omega (arith, digits_value-decimal own n h)))
 
 -- a name is one token
 pub name_first : (w rest : List ℕ) (line : ℕ) → is_name w ≡ true → Stops rest

@@ -70,7 +70,8 @@ completion (ComponentMore l) = symbol_on 0 CloseRound ∷ symbol_on 0 EqualSign 
 completion (Equals l) = symbol_on 0 EqualSign ∷ []
 completion (Formula l) = []
 
-value_completed : (setting : Setting) (line : ℕ) → (out : Outcome) × (runs (Some (SettingValue (record { setting = setting; line = line }))) (some_value setting ∷ []) ≡ Some out)
+value_completed : (setting : Setting) (line : ℕ) → (out : Outcome) × (runs (Some (SettingValue (record { setting = setting; line = line })))
+    (some_value setting ∷ []) ≡ Some out)
 unfolding step some_value
 value_completed ProgramName line = (_, refl)
 value_completed Width line = (_, refl)
@@ -123,14 +124,19 @@ line_whole (output_head ty name left h) f = an_output ty name h f
 
 outcome_begins : (ts more : List Placed) (out : Outcome) → IsAs out (ts ++ more) → BeginsStatement ts
 outcome_begins ts more out (as_statement {s} is) = (more, plain_statement s, is)
-outcome_begins ts more out (as_head {l} h) =
-    (more ++ number_on 0 0 ∷ [], line_of l (literal 0), subst (λ x. IsStatement x (line_of l (literal 0))) (append_assoc ts more (number_on 0 0 ∷ [])) (line_whole h (number_term 0 0)))
+outcome_begins ts more out (as_head {l} h) = (
+  more ++ number_on 0 0 ∷ [],
+  line_of l (literal 0),
+  subst (λ x. IsStatement x (line_of l (literal 0))) (append_assoc ts more (number_on 0 0 ∷ []))
+      (line_whole h (number_term 0 0)),
+)
 
 -- where the steps stand, some statement begins
 pub head_begins : (ts : List Placed) (s : Stage) → steps (Some Start) ts ≡ Some s → BeginsStatement ts
 head_begins ts s e =
     let c : (out : Outcome) × (runs (Some s) (completion s) ≡ Some out) = completed s in
-    outcome_begins ts (completion s) c.0 (sound (ts ++ completion s) c.0 (ap outcomes (steps-append (Some Start) ts (completion s)) ∙ (ap (λ o. runs o (completion s)) e ∙ c.1)))
+    outcome_begins ts (completion s) c.0 (sound (ts ++ completion s) c.0
+    (ap outcomes (steps-append (Some Start) ts (completion s)) ∙ (ap (λ o. runs o (completion s)) e ∙ c.1)))
 
 head_of_line : {l : LeftSide} {ts : List Placed} → IsAs (lines l) ts → IsHeadAs l ts
 head_of_line (as_head h) = h

@@ -26,7 +26,8 @@ use Rattle.soda_syntax.proofs.Texts.{IsLargeLine, IsRead, head_steps}
 use Rattle.soda_syntax.proofs.Chain.{IsStop}
 
 -- where the steps stand at no formula, none is read
-no_formula_before : {A : Type 0} (head x : List Placed) (l : LeftSide) (stage : Stage) → steps (Some Start) head ≡ Some (Formula l) → steps (Some Start) (head ++ x) ≡ Some stage → left_of stage ≡ None → A
+no_formula_before : {A : Type 0} (head x : List Placed) (l : LeftSide) (stage : Stage) → steps (Some Start) head ≡ Some (Formula l)
+    → steps (Some Start) (head ++ x) ≡ Some stage → left_of stage ≡ None → A
 no_formula_before head x l stage h e nf = by x (sym (steps-append (Some Start) head x ∙ ap (λ o. steps o x) h) ∙ e)
   where
     by : {A : Type 0} (x : List Placed) → steps (Some (Formula l)) x ≡ Some stage → A
@@ -35,7 +36,8 @@ no_formula_before head x l stage h e nf = by x (sym (steps-append (Some Start) h
         absurd (some_not_none (ap left_of same ∙ nf))
     by (t ∷ x) f = absurd (some_not_none (sym f ∙ steps-formula l t x))
 
-pub no_large : (front : List Placed) (stage : Stage) → steps (Some Start) front ≡ Some stage → left_of stage ≡ None → (p y : List Placed) → front ≡ p ++ y → IsLargeLine p → ⊥
+pub no_large : (front : List Placed) (stage : Stage) → steps (Some Start) front ≡ Some stage → left_of stage ≡ None → (p y : List Placed)
+    → front ≡ p ++ y → IsLargeLine p → ⊥
 no_large front stage e nf p y is large =
     let h : (l : LeftSide) × (steps (Some Start) large.head ≡ Some (Formula l)) = head_steps large.head large.left in
     let whole : large.head ++ (large.part ++ y) ≡ front = sym (append_assoc large.head large.part y) ∙ (ap (λ x. x ++ y) (sym large.is) ∙ sym is) in
@@ -47,8 +49,10 @@ plain_whole (as_statement is) = is
 plain_is_read : (ts : List Placed) (n : ℕ) (s : PlainStatement) → ReadsPlain ts n s → IsRead (take n ts) (drop n ts) s
 plain_is_read ts n s r =
     record {
-      whole = subst (IsStatement (take n ts)) r.is (plain_whole (sound (take n ts) (ends r.end) (ap outcomes r.at.read ∙ finished_outcome r.stage r.end r.ended)));
-      ended = λ t x e b. stuck (take n ts) t (head_refuses r.stage r.at.read (finished_no_formula r.stage r.end r.ended) (r.at.refuses t (get_of_drop n ts t x e))) b;
+      whole = subst (IsStatement (take n ts)) r.is (plain_whole (sound (take n ts) (ends r.end)
+          (ap outcomes r.at.read ∙ finished_outcome r.stage r.end r.ended)));
+      ended = λ t x e b. stuck (take n ts) t (head_refuses r.stage r.at.read (finished_no_formula r.stage r.end r.ended)
+          (r.at.refuses t (get_of_drop n ts t x e))) b;
       small = no_large (take n ts) r.stage r.at.read (finished_no_formula r.stage r.end r.ended);
     }
 
@@ -82,37 +86,46 @@ module _ (ts : List Placed) (n at size : ℕ) (left : LeftSide) (read : steps (S
 
   refused : (t : Placed) (x : List Placed) → drop n ts ≡ t ∷ x → (BeginsFormula (take (suc size) (drop at ts)) → ⊥) → BeginsStatement (take n ts ++ t ∷ []) → ⊥
   refused t x e never b =
-      stuck (take n ts) t (formula_refuses (take at ts) (take size (drop at ts)) left parted read (λ f. never (subst BeginsFormula (sym (take_one_more size (drop at ts) t x (next_of t x e))) f))) b
+      stuck (take n ts) t (formula_refuses (take at ts) (take size (drop at ts)) left parted read
+      (λ f. never (subst BeginsFormula (sym (take_one_more size (drop at ts) t x (next_of t x e))) f))) b
 
   line_small : ((j : ℕ) → j ≤ size → IsLarge (take j (drop at ts)) → ⊥) → (p y : List Placed) → take n ts ≡ p ++ y → IsLargeLine p → ⊥
   line_small never p y e large =
       let h : (l : LeftSide) × (steps (Some Start) large.head ≡ Some (Formula l)) = head_steps large.head large.left in
-      let whole : take at ts ++ take size (drop at ts) ≡ large.head ++ (large.part ++ y) = sym parted ∙ (e ∙ (ap (λ x. x ++ y) large.is ∙ append_assoc large.head large.part y)) in
-      let o : (take at ts ≡ large.head) × (take size (drop at ts) ≡ large.part ++ y) × (left ≡ h.0) = one_head (take at ts) large.head (take size (drop at ts)) (large.part ++ y) left h.0 whole read h.1 in
-      never (length large.part) (front_short size (drop at ts) large.part y o.1) (subst IsLarge (sym (front_taken size (drop at ts) large.part y o.1)) large.large)
+      let whole : take at ts ++ take size (drop at ts) ≡ large.head ++ (large.part ++ y) = sym parted
+      ∙ (e ∙ (ap (λ x. x ++ y) large.is ∙ append_assoc large.head large.part y)) in
+      let o : (take at ts ≡ large.head) × (take size (drop at ts) ≡ large.part ++ y)
+      × (left ≡ h.0) = one_head (take at ts) large.head (take size (drop at ts)) (large.part ++ y) left h.0 whole read h.1 in
+      never (length large.part) (front_short size (drop at ts) large.part y o.1)
+      (subst IsLarge (sym (front_taken size (drop at ts) large.part y o.1)) large.large)
 
   -- a whole statement there is a whole formula there
   formula_there : (s : PlainStatement) → IsStatement (take n ts) s → (a : Term) × IsFormula (take size (drop at ts)) a
   formula_there s is =
       elim (complete is) [
-        | inl p ↦ no_formula_before (take at ts) (take size (drop at ts)) left p.stage read (ap (steps (Some Start)) (sym parted) ∙ p.read) (finished_no_formula p.stage p.end p.ended)
+        | inl p ↦ no_formula_before (take at ts) (take size (drop at ts)) left p.stage read (ap (steps (Some Start)) (sym parted) ∙ p.read)
+            (finished_no_formula p.stage p.end p.ended)
         | inr k ↦
-            (let o : (k.head ≡ take at ts) × (k.part ≡ take size (drop at ts)) × (k.left ≡ left) = one_head k.head (take at ts) k.part (take size (drop at ts)) k.left left (sym k.is ∙ parted) k.read read in
+            (let o : (k.head ≡ take at ts) × (k.part ≡ take size (drop at ts))
+            × (k.left ≡ left) = one_head k.head (take at ts) k.part (take size (drop at ts)) k.left left (sym k.is ∙ parted) k.read read in
             (k.formula, subst (λ x. IsFormula x k.formula) o.1 k.whole))
       ]
 
 line_is_read : (ts : List Placed) (n : ℕ) (s : PlainStatement) → ReadsLine ts n s → IsRead (take n ts) (drop n ts) s
 line_is_read ts n s r =
     record {
-      whole = subst (λ x. IsStatement x s) (sym (parted ts n r.at r.size r.left r.read r.all)) (subst (IsStatement (take r.at ts ++ take r.size (drop r.at ts))) r.is (line_whole (head_is (take r.at ts) r.left r.read) r.whole.whole));
-      ended = λ t x e b. refused ts n r.at r.size r.left r.read r.all t x e (r.whole.ended (one_more_within r.size (drop r.at ts) t x (next_of ts n r.at r.size r.left r.read r.all t x e))) b;
+      whole = subst (λ x. IsStatement x s) (sym (parted ts n r.at r.size r.left r.read r.all))
+          (subst (IsStatement (take r.at ts ++ take r.size (drop r.at ts))) r.is (line_whole (head_is (take r.at ts) r.left r.read) r.whole.whole));
+      ended = λ t x e b. refused ts n r.at r.size r.left r.read r.all t x e
+          (r.whole.ended (one_more_within r.size (drop r.at ts) t x (next_of ts n r.at r.size r.left r.read r.all t x e))) b;
       small = line_small ts n r.at r.size r.left r.read r.all r.whole.small;
     }
 
 line_is_stop : (ts : List Placed) (n : ℕ) → StopsLine ts n → IsStop (take n ts) (drop n ts)
 line_is_stop ts n r =
     record {
-      begins = subst BeginsStatement (sym whole) (formula_begins (take r.at ts) (take r.size (drop r.at ts)) r.left r.read (r.stops.good r.size (omega arith)).begins);
+      begins = subst BeginsStatement (sym whole) (formula_begins (take r.at ts) (take r.size (drop r.at ts)) r.left r.read
+          (r.stops.good r.size (omega arith)).begins);
       small = line_small ts n r.at r.size r.left r.read r.all (λ j le. (r.stops.good j le).small);
       wrong = λ t x e b nl. refused ts n r.at r.size r.left r.read r.all t x e (λ f. too_large t x e f nl) b;
       not_whole = λ s is e.
@@ -134,7 +147,8 @@ line_is_stop ts n r =
     head_there (local_head ty name left h) = (ty, name, left, inl h)
     head_there (output_head ty name left h) = (ty, name, left, inr h)
 
-    too_large : (t : Placed) (x : List Placed) → drop n ts ≡ t ∷ x → BeginsFormula (take (suc r.size) (drop r.at ts)) → (IsLargeLine (take n ts ++ t ∷ []) → ⊥) → ⊥
+    too_large : (t : Placed) (x : List Placed) → drop n ts ≡ t ∷ x → BeginsFormula (take (suc r.size) (drop r.at ts))
+        → (IsLargeLine (take n ts ++ t ∷ []) → ⊥) → ⊥
     too_large t x e f nl =
         let more : take (suc r.size) (drop r.at ts) ≡ take r.size (drop r.at ts) ++ t ∷ [] = take_one_more r.size (drop r.at ts) t x (next t x e) in
         r.stops.wrong (one_more_within r.size (drop r.at ts) t x (next t x e)) (record {
@@ -150,12 +164,14 @@ line_is_stop ts n r =
               });
         })
 
-    named : (a : Term) → IsFormula (take r.size (drop r.at ts)) a → (t : Placed) (x : List Placed) → drop n ts ≡ t ∷ x → BeginsStatement (t ∷ []) → BeginsFormula (take (suc r.size) (drop r.at ts)) → ⊥
+    named : (a : Term) → IsFormula (take r.size (drop r.at ts)) a → (t : Placed) (x : List Placed) → drop n ts ≡ t ∷ x → BeginsStatement (t ∷ [])
+        → BeginsFormula (take (suc r.size) (drop r.at ts)) → ⊥
     named a f t x e (rest, s, is) b =
         let w : (line : ℕ) × (w : List ℕ) × (others : List Placed) × (t ∷ rest ≡ name_on line w ∷ others) = first_name is in
         let same : t ≡ name_on w.0 w.1 = cc (w.3) in
         let more : take (suc r.size) (drop r.at ts) ≡ take r.size (drop r.at ts) ++ t ∷ [] = take_one_more r.size (drop r.at ts) t x (next t x e) in
-        name_ends_formula (take r.size (drop r.at ts)) a w.0 w.1 f (subst (λ v. BeginsFormula (take r.size (drop r.at ts) ++ v ∷ [])) same (subst BeginsFormula more b))
+        name_ends_formula (take r.size (drop r.at ts)) a w.0 w.1 f (subst (λ v. BeginsFormula (take r.size (drop r.at ts) ++ v ∷ [])) same
+        (subst BeginsFormula more b))
 
 pub is_read : (ts : List Placed) (n : ℕ) (s : PlainStatement) → ReadsStatement ts n s → IsRead (take n ts) (drop n ts) s
 is_read ts n s r =

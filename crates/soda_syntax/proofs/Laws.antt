@@ -17,7 +17,8 @@ no_front {a} {s} us st e = by a st e
     by (x ∷ b) p f = cc
 
 -- no statement ends within another and leaves whole statements
-no_shorter : {a b us : List Placed} {s r : PlainStatement} {ss : List PlainStatement} (u : Placed) (z rest : List Placed) → IsStatement a s → IsStatement b r → AreStatements us ss → b ≡ a ++ u ∷ z → us ≡ (u ∷ z) ++ rest → ⊥
+no_shorter : {a b us : List Placed} {s r : PlainStatement} {ss : List PlainStatement} (u : Placed) (z rest : List Placed) → IsStatement a s
+    → IsStatement b r → AreStatements us ss → b ≡ a ++ u ∷ z → us ≡ (u ∷ z) ++ rest → ⊥
 no_shorter {a} {us = us} u z rest sa sb more f g =
     name_ends u sa (tail_begins [] u (z ++ rest) more nothing_begins (append-nil us ∙ g)) (one_more a u z (subst BeginsStatement f (whole_begins sb)))
 

@@ -1,5 +1,5 @@
 -- Two ways of parting one list.
-use Rattle.std.proofs.Common.{◌≡◌, ◌⊎◌, inl, inr, List, [], ◌∷◌, ◌++◌, refl, sym, ap}
+use Rattle.std.proofs.Common.{◌≡◌, ◌⊎◌, inl, inr, List, [], ◌∷◌, ◌++◌, refl, sym}
 
 -- the second front is at least as long as the first
 pub record Beyond {A : Type 0} (xs us ys vs : List A) : Type 0 where

@@ -69,7 +69,8 @@ unfolding step
 formula_at l [] out e = (refl, some_one e)
 formula_at l (t ∷ ts) out e = dead ts out e
 
-pub choose : (b : Bool) (x y : Next) (ts : List Placed) (out : Outcome) → goes (if b then x else y) ts ≡ Some out → ((b ≡ true) × (goes x ts ≡ Some out)) ⊎ ((b ≡ false) × (goes y ts ≡ Some out))
+pub choose : (b : Bool) (x y : Next) (ts : List Placed) (out : Outcome) → goes (if b then x else y) ts ≡ Some out
+    → ((b ≡ true) × (goes x ts ≡ Some out)) ⊎ ((b ≡ false) × (goes y ts ≡ Some out))
 choose true x y ts out e = inl (refl, e)
 choose false x y ts out e = inr (refl, e)
 
@@ -103,22 +104,26 @@ placed : ℕ → Token → Placed
 placed l t = record { line = l; token = t }
 
 module _ (l : ℕ) (ts : List Placed) (out : Outcome) where
-  pub colon_taken : (h : Heading) (t : Token) → runs (Some (SettingColon h)) (record { line = l; token = t } ∷ ts) ≡ Some out → TakesSymbol Colon (record { line = l; token = t }) (SettingValue h) ts out
+  pub colon_taken : (h : Heading) (t : Token) → runs (Some (SettingColon h)) (record { line = l; token = t } ∷ ts) ≡ Some out
+      → TakesSymbol Colon (record { line = l; token = t }) (SettingValue h) ts out
   unfolding step
   colon_taken h (Sign Colon) e = record { line = l; is = refl; on = e }
   colon_taken h _ e = dead ts out e
 
-  pub type_colon_taken : (r : Role) (ty : Word) (t : Token) → runs (Some (RoleColon r ty)) (record { line = l; token = t } ∷ ts) ≡ Some out → TakesSymbol Colon (record { line = l; token = t }) (RoleName r ty) ts out
+  pub type_colon_taken : (r : Role) (ty : Word) (t : Token) → runs (Some (RoleColon r ty)) (record { line = l; token = t } ∷ ts) ≡ Some out
+      → TakesSymbol Colon (record { line = l; token = t }) (RoleName r ty) ts out
   unfolding step
   type_colon_taken r ty (Sign Colon) e = record { line = l; is = refl; on = e }
   type_colon_taken r ty _ e = dead ts out e
 
-  pub name_taken : (r : Role) (ty : Word) (t : Token) → runs (Some (RoleName r ty)) (record { line = l; token = t } ∷ ts) ≡ Some out → TakesName (record { line = l; token = t }) (declared_as r ty) ts out
+  pub name_taken : (r : Role) (ty : Word) (t : Token) → runs (Some (RoleName r ty)) (record { line = l; token = t } ∷ ts) ≡ Some out
+      → TakesName (record { line = l; token = t }) (declared_as r ty) ts out
   unfolding step
   name_taken r ty (Name w) e = record { word = record { line = l; text = w }; is = refl; on = e }
   name_taken r ty _ e = dead ts out e
 
-  pub type_taken : (r : Role) (t : Token) → runs (Some (TypeWord r)) (record { line = l; token = t } ∷ ts) ≡ Some out → TakesType r (record { line = l; token = t }) ts out
+  pub type_taken : (r : Role) (t : Token) → runs (Some (TypeWord r)) (record { line = l; token = t } ∷ ts) ≡ Some out
+      → TakesType r (record { line = l; token = t }) ts out
   unfolding step
   type_taken r (Name w) e =
       elim (choose (is_word (codes "dram") w) Wrong (typed r l w) ts out e) [
@@ -127,28 +132,33 @@ module _ (l : ℕ) (ts : List Placed) (out : Outcome) where
       ]
   type_taken r _ e = dead ts out e
 
-  pub dram_number_taken : (r : Role) (t : Token) → runs (Some (BankNumber r)) (record { line = l; token = t } ∷ ts) ≡ Some out → TakesNumber (record { line = l; token = t }) (λ line n. BankMore r) ts out
+  pub dram_number_taken : (r : Role) (t : Token) → runs (Some (BankNumber r)) (record { line = l; token = t } ∷ ts) ≡ Some out
+      → TakesNumber (record { line = l; token = t }) (λ line n. BankMore r) ts out
   unfolding step
   dram_number_taken r (Number n) e = record { line = l; number = n; is = refl; on = e }
   dram_number_taken r _ e = dead ts out e
 
-  pub bank_more_taken : (r : Role) (t : Token) → runs (Some (BankMore r)) (record { line = l; token = t } ∷ ts) ≡ Some out → TakesSymbol Dot (record { line = l; token = t }) (BankNumber r) ts out ⊎ TakesType r (record { line = l; token = t }) ts out
+  pub bank_more_taken : (r : Role) (t : Token) → runs (Some (BankMore r)) (record { line = l; token = t } ∷ ts) ≡ Some out
+      → TakesSymbol Dot (record { line = l; token = t }) (BankNumber r) ts out ⊎ TakesType r (record { line = l; token = t }) ts out
   unfolding step
   bank_more_taken r (Sign Dot) e = inl (record { line = l; is = refl; on = e })
   bank_more_taken r (Name w) e = inr (type_taken r (Name w) e)
   bank_more_taken r _ e = dead ts out e
 
-  pub size_taken : (p : ParamLine) (t : Token) → runs (Some (SizeNumber p)) (record { line = l; token = t } ∷ ts) ≡ Some out → TakesNumber (record { line = l; token = t }) (λ line n. SizeClose (more_sizes p line n)) ts out
+  pub size_taken : (p : ParamLine) (t : Token) → runs (Some (SizeNumber p)) (record { line = l; token = t } ∷ ts) ≡ Some out
+      → TakesNumber (record { line = l; token = t }) (λ line n. SizeClose (more_sizes p line n)) ts out
   unfolding step
   size_taken p (Number n) e = record { line = l; number = n; is = refl; on = e }
   size_taken p _ e = dead ts out e
 
-  pub size_close_taken : (p : ParamLine) (t : Token) → runs (Some (SizeClose p)) (record { line = l; token = t } ∷ ts) ≡ Some out → TakesSymbol CloseSquare (record { line = l; token = t }) (Sizes p) ts out
+  pub size_close_taken : (p : ParamLine) (t : Token) → runs (Some (SizeClose p)) (record { line = l; token = t } ∷ ts) ≡ Some out
+      → TakesSymbol CloseSquare (record { line = l; token = t }) (Sizes p) ts out
   unfolding step
   size_close_taken p (Sign CloseSquare) e = record { line = l; is = refl; on = e }
   size_close_taken p _ e = dead ts out e
 
-  pub sizes_taken : (p : ParamLine) (t : Token) → runs (Some (Sizes p)) (record { line = l; token = t } ∷ ts) ≡ Some out → TakesSymbol OpenSquare (record { line = l; token = t }) (SizeNumber p) ts out × (length p.sizes < 2)
+  pub sizes_taken : (p : ParamLine) (t : Token) → runs (Some (Sizes p)) (record { line = l; token = t } ∷ ts) ≡ Some out
+      → TakesSymbol OpenSquare (record { line = l; token = t }) (SizeNumber p) ts out × (length p.sizes < 2)
   unfolding step
   sizes_taken p (Sign OpenSquare) e =
       elim (choose (nat_lt (length p.sizes) 2) (Goes (SizeNumber p)) (Whole (Param p)) ts out e) [
@@ -157,46 +167,56 @@ module _ (l : ℕ) (ts : List Placed) (out : Outcome) where
       ]
   sizes_taken p _ e = dead ts out e
 
-  pub tile_taken : (d : TileSoFar) (t : Token) → runs (Some (TileOrEnd d)) (record { line = l; token = t } ∷ ts) ≡ Some out → TakesSymbol OpenRound (record { line = l; token = t }) (TileItem d) ts out
+  pub tile_taken : (d : TileSoFar) (t : Token) → runs (Some (TileOrEnd d)) (record { line = l; token = t } ∷ ts) ≡ Some out
+      → TakesSymbol OpenRound (record { line = l; token = t }) (TileItem d) ts out
   unfolding step
   tile_taken d (Sign OpenRound) e = record { line = l; is = refl; on = e }
   tile_taken d _ e = dead ts out e
 
-  pub item_taken : (d : TileSoFar) (t : Token) → runs (Some (TileItem d)) (record { line = l; token = t } ∷ ts) ≡ Some out → (x : Extent) × IsExtent (record { line = l; token = t } ∷ []) x × (runs (Some (TileMore (more_items d x))) ts ≡ Some out)
+  pub item_taken : (d : TileSoFar) (t : Token) → runs (Some (TileItem d)) (record { line = l; token = t } ∷ ts) ≡ Some out
+      → (x : Extent) × IsExtent (record { line = l; token = t } ∷ []) x × (runs (Some (TileMore (more_items d x))) ts ≡ Some out)
   unfolding step
   item_taken d (Number n) e = (Fixed n, a_number l n, e)
   item_taken d (Sign Star) e = (Open, a_star l, e)
   item_taken d _ e = dead ts out e
 
-  pub item_more_taken : (d : TileSoFar) (t : Token) → runs (Some (TileMore d)) (record { line = l; token = t } ∷ ts) ≡ Some out → TakesSymbol Comma (record { line = l; token = t }) (TileItem d) ts out ⊎ TakesSymbol CloseRound (record { line = l; token = t }) (Finished (tiled d)) ts out
+  pub item_more_taken : (d : TileSoFar) (t : Token) → runs (Some (TileMore d)) (record { line = l; token = t } ∷ ts) ≡ Some out
+      → TakesSymbol Comma (record { line = l; token = t }) (TileItem d) ts out ⊎ TakesSymbol CloseRound (record { line = l; token = t })
+      (Finished (tiled d)) ts out
   unfolding step
   item_more_taken d (Sign Comma) e = inl (record { line = l; is = refl; on = e })
   item_more_taken d (Sign CloseRound) e = inr (record { line = l; is = refl; on = e })
   item_more_taken d _ e = dead ts out e
 
-  pub offsets_taken : (s : LeftSide) (t : Token) → runs (Some (OffsetsOpen s)) (record { line = l; token = t } ∷ ts) ≡ Some out → TakesSymbol OpenRound (record { line = l; token = t }) (Component s) ts out
+  pub offsets_taken : (s : LeftSide) (t : Token) → runs (Some (OffsetsOpen s)) (record { line = l; token = t } ∷ ts) ≡ Some out
+      → TakesSymbol OpenRound (record { line = l; token = t }) (Component s) ts out
   unfolding step
   offsets_taken s (Sign OpenRound) e = record { line = l; is = refl; on = e }
   offsets_taken s _ e = dead ts out e
 
-  pub component_taken : (s : LeftSide) (t : Token) → runs (Some (Component s)) (record { line = l; token = t } ∷ ts) ≡ Some out → TakesNumber (record { line = l; token = t }) (λ line n. ComponentMore (more_offsets s (pos n))) ts out ⊎ TakesSymbol MinusSign (record { line = l; token = t }) (Magnitude s) ts out
+  pub component_taken : (s : LeftSide) (t : Token) → runs (Some (Component s)) (record { line = l; token = t } ∷ ts) ≡ Some out
+      → TakesNumber (record { line = l; token = t }) (λ line n. ComponentMore (more_offsets s (pos n))) ts out ⊎ TakesSymbol MinusSign
+      (record { line = l; token = t }) (Magnitude s) ts out
   unfolding step
   component_taken s (Number n) e = inl (record { line = l; number = n; is = refl; on = e })
   component_taken s (Sign MinusSign) e = inr (record { line = l; is = refl; on = e })
   component_taken s _ e = dead ts out e
 
-  pub magnitude_taken : (s : LeftSide) (t : Token) → runs (Some (Magnitude s)) (record { line = l; token = t } ∷ ts) ≡ Some out → TakesNumber (record { line = l; token = t }) (λ line n. ComponentMore (more_offsets s (neg_ℤ (pos n)))) ts out
+  pub magnitude_taken : (s : LeftSide) (t : Token) → runs (Some (Magnitude s)) (record { line = l; token = t } ∷ ts) ≡ Some out
+      → TakesNumber (record { line = l; token = t }) (λ line n. ComponentMore (more_offsets s (neg_ℤ (pos n)))) ts out
   unfolding step
   magnitude_taken s (Number n) e = record { line = l; number = n; is = refl; on = e }
   magnitude_taken s _ e = dead ts out e
 
-  pub component_more_taken : (s : LeftSide) (t : Token) → runs (Some (ComponentMore s)) (record { line = l; token = t } ∷ ts) ≡ Some out → TakesSymbol Comma (record { line = l; token = t }) (Component s) ts out ⊎ TakesSymbol CloseRound (record { line = l; token = t }) (Equals s) ts out
+  pub component_more_taken : (s : LeftSide) (t : Token) → runs (Some (ComponentMore s)) (record { line = l; token = t } ∷ ts) ≡ Some out
+      → TakesSymbol Comma (record { line = l; token = t }) (Component s) ts out ⊎ TakesSymbol CloseRound (record { line = l; token = t }) (Equals s) ts out
   unfolding step
   component_more_taken s (Sign Comma) e = inl (record { line = l; is = refl; on = e })
   component_more_taken s (Sign CloseRound) e = inr (record { line = l; is = refl; on = e })
   component_more_taken s _ e = dead ts out e
 
-  pub equals_taken : (s : LeftSide) (t : Token) → runs (Some (Equals s)) (record { line = l; token = t } ∷ ts) ≡ Some out → TakesSymbol EqualSign (record { line = l; token = t }) (Formula s) ts out
+  pub equals_taken : (s : LeftSide) (t : Token) → runs (Some (Equals s)) (record { line = l; token = t } ∷ ts) ≡ Some out
+      → TakesSymbol EqualSign (record { line = l; token = t }) (Formula s) ts out
   unfolding step
   equals_taken s (Sign EqualSign) e = record { line = l; is = refl; on = e }
   equals_taken s _ e = dead ts out e
@@ -211,22 +231,31 @@ pub data Valued : Setting → ℕ → Placed → Outcome → Type 0 where
   preserved_value : (line at : ℕ) → Valued Edge line (name_on at (codes "preserve")) (ends (Border line true))
   group_value : (line at : ℕ) (text : List ℕ) → Valued Group line (name_on at text) (ends (Cluster line))
 
-as_valued : {setting : Setting} {line : ℕ} {p q : Placed} {s : Statement} (out : Outcome) → p ≡ q → ends s ≡ out → Valued setting line q (ends s) → Valued setting line p out
+as_valued : {setting : Setting} {line : ℕ} {p q : Placed} {s : Statement} (out : Outcome) → p ≡ q → ends s ≡ out → Valued setting line q (ends s)
+    → Valued setting line p out
 as_valued {setting} {line} {p} {s = s} out e f v = subst (λ o. Valued setting line p o) f (subst (λ x. Valued setting line x (ends s)) (sym e) v)
 
-edge_taken : (line l : ℕ) (w : List ℕ) (ts : List Placed) (out : Outcome) → runs (Some (SettingValue (record { setting = Edge; line = line }))) (name_on l w ∷ ts) ≡ Some out → (ts ≡ []) × Valued Edge line (name_on l w) out
+edge_taken : (line l : ℕ) (w : List ℕ) (ts : List Placed) (out : Outcome)
+    → runs (Some (SettingValue (record { setting = Edge; line = line }))) (name_on l w ∷ ts) ≡ Some out → (ts ≡ []) × Valued Edge line (name_on l w) out
 unfolding step
 edge_taken line l w ts out e =
     elim (choose (is_word (codes "ignore") w) _ _ ts out e) [
-      | inl k ↦ (let f = finished (Border line false) ts out k.1 in (f.0, as_valued out (ap (λ v. name_on l v) (word_is (codes "ignore") w k.0)) f.1 (ignored_value line l)))
+      | inl k ↦ (let f = finished (Border line false) ts out k.1 in (
+        f.0,
+        as_valued out (ap (λ v. name_on l v) (word_is (codes "ignore") w k.0)) f.1
+            (ignored_value line l),
+      ))
       | inr k ↦
           elim (choose (is_word (codes "preserve") w) _ _ ts out k.1) [
-            | inl m ↦ (let f = finished (Border line true) ts out m.1 in (f.0, as_valued out (ap (λ v. name_on l v) (word_is (codes "preserve") w m.0)) f.1 (preserved_value line l)))
+            | inl m ↦ (let f = finished (Border line true) ts out m.1 in
+                (f.0, as_valued out (ap (λ v. name_on l v) (word_is (codes "preserve") w m.0)) f.1 (preserved_value line l)))
             | inr m ↦ dead ts out m.1
           ]
     ]
 
-pub value_taken : (setting : Setting) (line l : ℕ) (t : Token) (ts : List Placed) (out : Outcome) → runs (Some (SettingValue (record { setting = setting; line = line }))) (record { line = l; token = t } ∷ ts) ≡ Some out → (ts ≡ []) × Valued setting line (record { line = l; token = t }) out
+pub value_taken : (setting : Setting) (line l : ℕ) (t : Token) (ts : List Placed) (out : Outcome)
+    → runs (Some (SettingValue (record { setting = setting; line = line }))) (record { line = l; token = t } ∷ ts) ≡ Some out
+    → (ts ≡ []) × Valued setting line (record { line = l; token = t }) out
 unfolding step
 value_taken ProgramName line l (Name w) ts out e = let f = finished (Kernel line w) ts out e in (f.0, as_valued out refl f.1 (name_value line l w))
 value_taken Group line l (Name w) ts out e = let f = finished (Cluster line) ts out e in (f.0, as_valued out refl f.1 (group_value line l w))
@@ -255,7 +284,8 @@ pub record Begins (line : ℕ) (w : List ℕ) (ts : List Placed) (out : Outcome)
   pub by : Begun line w next
   pub on : goes next ts ≡ Some out
 
-begins_with : (line : ℕ) (w word : List ℕ) (n : Next) (ts : List Placed) (out : Outcome) → is_word word w ≡ true → Begun line word n → goes n ts ≡ Some out → Begins line w ts out
+begins_with : (line : ℕ) (w word : List ℕ) (n : Next) (ts : List Placed) (out : Outcome) → is_word word w ≡ true → Begun line word n
+    → goes n ts ≡ Some out → Begins line w ts out
 begins_with line w word n ts out e b g = record { next = n; by = subst (λ v. Begun line v n) (sym (word_is word w e)) b; on = g }
 
 declaring_taken : (line : ℕ) (w : List ℕ) (ts : List Placed) (out : Outcome) → goes (declaring w) ts ≡ Some out → Begins line w ts out
@@ -311,13 +341,16 @@ pub record Opens (p : Placed) (ts : List Placed) (out : Outcome) : Type 0 where
   pub is : p ≡ name_on line word
   pub begins : Begins line word ts out
 
-pub first_taken : (l : ℕ) (t : Token) (ts : List Placed) (out : Outcome) → runs (Some Start) (record { line = l; token = t } ∷ ts) ≡ Some out → Opens (record { line = l; token = t }) ts out
+pub first_taken : (l : ℕ) (t : Token) (ts : List Placed) (out : Outcome) → runs (Some Start) (record { line = l; token = t } ∷ ts) ≡ Some out
+    → Opens (record { line = l; token = t }) ts out
 unfolding step
 first_taken l (Name w) ts out e = record { line = l; word = w; is = refl; begins = heading_taken l w ts out e }
 first_taken l _ ts out e = dead ts out e
 
 -- the second word of a setting
-pub second_taken : (line l : ℕ) (t : Token) (ts : List Placed) (out : Outcome) → runs (Some (WidthWord line)) (record { line = l; token = t } ∷ ts) ≡ Some out → (record { line = l; token = t } ≡ name_on l (codes "width")) × (goes (headed Width line) ts ≡ Some out)
+pub second_taken : (line l : ℕ) (t : Token) (ts : List Placed) (out : Outcome)
+    → runs (Some (WidthWord line)) (record { line = l; token = t } ∷ ts) ≡ Some out
+    → (record { line = l; token = t } ≡ name_on l (codes "width")) × (goes (headed Width line) ts ≡ Some out)
 unfolding step
 second_taken line l (Name w) ts out e =
     elim (choose (is_word (codes "width") w) _ _ ts out e) [
@@ -326,7 +359,9 @@ second_taken line l (Name w) ts out e =
     ]
 second_taken line l _ ts out e = dead ts out e
 
-pub factor_taken : (line l : ℕ) (t : Token) (ts : List Placed) (out : Outcome) → runs (Some (FactorWord line)) (record { line = l; token = t } ∷ ts) ≡ Some out → (record { line = l; token = t } ≡ name_on l (codes "factor")) × (goes (headed Factor line) ts ≡ Some out)
+pub factor_taken : (line l : ℕ) (t : Token) (ts : List Placed) (out : Outcome)
+    → runs (Some (FactorWord line)) (record { line = l; token = t } ∷ ts) ≡ Some out
+    → (record { line = l; token = t } ≡ name_on l (codes "factor")) × (goes (headed Factor line) ts ≡ Some out)
 unfolding step
 factor_taken line l (Name w) ts out e =
     elim (choose (is_word (codes "factor") w) _ _ ts out e) [
@@ -336,7 +371,10 @@ factor_taken line l (Name w) ts out e =
 factor_taken line l _ ts out e = dead ts out e
 
 -- a bank or a type
-pub bank_taken : (r : Role) (l : ℕ) (t : Token) (ts : List Placed) (out : Outcome) → runs (Some (BankOrType r)) (record { line = l; token = t } ∷ ts) ≡ Some out → ((record { line = l; token = t } ≡ name_on l (codes "dram")) × (runs (Some (BankNumber r)) ts ≡ Some out)) ⊎ TakesType r (record { line = l; token = t }) ts out
+pub bank_taken : (r : Role) (l : ℕ) (t : Token) (ts : List Placed) (out : Outcome)
+    → runs (Some (BankOrType r)) (record { line = l; token = t } ∷ ts) ≡ Some out
+    → ((record { line = l; token = t } ≡ name_on l (codes "dram")) × (runs (Some (BankNumber r)) ts ≡ Some out)) ⊎ TakesType r
+    (record { line = l; token = t }) ts out
 unfolding step
 bank_taken r l (Name w) ts out e =
     elim (choose (is_word (codes "dram") w) (Goes (BankNumber r)) (typed r l w) ts out e) [

@@ -34,11 +34,13 @@ steps-front ts us o last e =
     in r (steps o ts) refl
 
 -- a list has one head that a formula follows
-pub one_head : (h g x y : List Placed) (l m : LeftSide) → h ++ x ≡ g ++ y → steps (Some Start) h ≡ Some (Formula l) → steps (Some Start) g ≡ Some (Formula m) → (h ≡ g) × (x ≡ y) × (l ≡ m)
+pub one_head : (h g x y : List Placed) (l m : LeftSide) → h ++ x ≡ g ++ y → steps (Some Start) h ≡ Some (Formula l)
+    → steps (Some Start) g ≡ Some (Formula m) → (h ≡ g) × (x ≡ y) × (l ≡ m)
 one_head h g x y l m e sh sg =
     elim (compare h g x y e) [
       | inl b ↦ beyond b
-      | inr b ↦ absurd (some_not_none (sym sh ∙ (ap (steps (Some Start)) b.front ∙ (steps-append (Some Start) g (b.first ∷ b.more) ∙ (ap (λ o. steps o (b.first ∷ b.more)) sg ∙ steps-formula m b.first b.more)))))
+      | inr b ↦ absurd (some_not_none (sym sh ∙ (ap (steps (Some Start)) b.front
+          ∙ (steps-append (Some Start) g (b.first ∷ b.more) ∙ (ap (λ o. steps o (b.first ∷ b.more)) sg ∙ steps-formula m b.first b.more)))))
     ]
   where
     same : (z : List Placed) → g ≡ h ++ z → x ≡ z ++ y → (h ≡ g) × (x ≡ y) × (l ≡ m)
@@ -46,7 +48,8 @@ one_head h g x y l m e sh sg =
         let k : g ≡ h = f ∙ append-nil h in
         let q : Some (Formula l) ≡ Some (Formula m) = sym sh ∙ (ap (steps (Some Start)) (sym k) ∙ sg) in
         (sym k, r, cc)
-    same (u ∷ z) f r = absurd (some_not_none (sym sg ∙ (ap (steps (Some Start)) f ∙ (steps-append (Some Start) h (u ∷ z) ∙ (ap (λ o. steps o (u ∷ z)) sh ∙ steps-formula l u z)))))
+    same (u ∷ z) f r = absurd (some_not_none (sym sg ∙ (ap (steps (Some Start)) f
+        ∙ (steps-append (Some Start) h (u ∷ z) ∙ (ap (λ o. steps o (u ∷ z)) sh ∙ steps-formula l u z)))))
 
     beyond : Beyond h g x y → (h ≡ g) × (x ≡ y) × (l ≡ m)
     beyond b = same b.more b.front b.rest

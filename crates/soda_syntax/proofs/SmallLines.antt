@@ -57,7 +57,8 @@ plain_small {ts} {s} is none =
 -- statements one behind another, each of them small
 pub data AreSmallStatements : List Placed → List PlainStatement → Type 0 where
   none_small : AreSmallStatements [] []
-  small_before : {ts us : List Placed} {s : PlainStatement} {ss : List PlainStatement} → IsStatement ts s → IsSmallLine ts → AreSmallStatements us ss → AreSmallStatements (ts ++ us) (s ∷ ss)
+  small_before : {ts us : List Placed} {s : PlainStatement} {ss : List PlainStatement} → IsStatement ts s → IsSmallLine ts → AreSmallStatements us ss
+      → AreSmallStatements (ts ++ us) (s ∷ ss)
 
 all_statements : {ts : List Placed} {ss : List PlainStatement} → AreSmallStatements ts ss → AreStatements ts ss
 all_statements none_small = no_statement

@@ -28,8 +28,10 @@ none_ends e = absurd (some_not_none (sym e))
 
 -- the head of a local or an output
 pub data IsHeadAs : LeftSide → List Placed → Type 0 where
-  local_head : {ts : List Placed} (ty name : Word) (left : List ℤ) → IsLocalHead ts ty name left → IsHeadAs (record { role = Middle; ty = ty; name = name; offsets = left }) ts
-  output_head : {ts : List Placed} (ty name : Word) (left : List ℤ) → IsOutputHead ts ty name left → IsHeadAs (record { role = Target; ty = ty; name = name; offsets = left }) ts
+  local_head : {ts : List Placed} (ty name : Word) (left : List ℤ) → IsLocalHead ts ty name left
+      → IsHeadAs (record { role = Middle; ty = ty; name = name; offsets = left }) ts
+  output_head : {ts : List Placed} (ty name : Word) (left : List ℤ) → IsOutputHead ts ty name left
+      → IsHeadAs (record { role = Target; ty = ty; name = name; offsets = left }) ts
 
 -- what the tokens are, where the steps end so
 pub data IsAs : Outcome → List Placed → Type 0 where
@@ -47,7 +49,8 @@ setting_sound : (setting : Setting) (line : ℕ) (ts : List Placed) (out : Outco
 setting_sound setting line [] out e = none_ends e
 setting_sound setting line (p ∷ []) out e = none_ends (colon_taken p.line [] out (record { setting = setting; line = line }) p.token e).on
 setting_sound setting line (p ∷ q ∷ ts) out e =
-    let c : TakesSymbol Colon p (SettingValue (record { setting = setting; line = line })) (q ∷ ts) out = colon_taken p.line (q ∷ ts) out (record { setting = setting; line = line }) p.token e in
+    let c : TakesSymbol Colon p (SettingValue (record { setting = setting; line = line })) (q ∷ ts) out = colon_taken p.line (q ∷ ts) out
+    (record { setting = setting; line = line }) p.token e in
     let v : (ts ≡ []) × Valued setting line q out = value_taken setting line q.line q.token ts out c.on in
     let is : p ∷ q ∷ ts ≡ symbol_on c.line Colon ∷ q ∷ [] = cc (c.is, v.0) in
     record { colon = c.line; at = q; is = is; valued = v.1 }
@@ -59,10 +62,12 @@ set_as front ts us out e h = subst (λ x. IsAs out (front ++ x)) (sym e) h
 kernel_sound : (line c : ℕ) (p : Placed) (out : Outcome) → Valued ProgramName line p out → IsAs out (name_on line (codes "kernel") ∷ symbol_on c Colon ∷ p ∷ [])
 kernel_sound line c p out (name_value l at text) = as_statement (a_kernel line c at text)
 
-width_sound : (line second c : ℕ) (p : Placed) (out : Outcome) → Valued Width line p out → IsAs out (name_on line (codes "burst") ∷ name_on second (codes "width") ∷ symbol_on c Colon ∷ p ∷ [])
+width_sound : (line second c : ℕ) (p : Placed) (out : Outcome) → Valued Width line p out
+    → IsAs out (name_on line (codes "burst") ∷ name_on second (codes "width") ∷ symbol_on c Colon ∷ p ∷ [])
 width_sound line second c p out (width_value l at n) = as_statement (a_burst_width line second c at n)
 
-factor_sound : (line second c : ℕ) (p : Placed) (out : Outcome) → Valued Factor line p out → IsAs out (name_on line (codes "unroll") ∷ name_on second (codes "factor") ∷ symbol_on c Colon ∷ p ∷ [])
+factor_sound : (line second c : ℕ) (p : Placed) (out : Outcome) → Valued Factor line p out
+    → IsAs out (name_on line (codes "unroll") ∷ name_on second (codes "factor") ∷ symbol_on c Colon ∷ p ∷ [])
 factor_sound line second c p out (factor_value l at n) = as_statement (an_unroll_factor line second c at n)
 
 iterate_sound : (line c : ℕ) (p : Placed) (out : Outcome) → Valued Times line p out → IsAs out (name_on line (codes "iterate") ∷ symbol_on c Colon ∷ p ∷ [])
@@ -109,7 +114,8 @@ record IsBanked (IsFront : List Placed → Type 0) (r : Role) (ts : List Placed)
 -- behind `dram`, and behind a number of a bank
 abbrev DotsSound : Role → List Placed → Type 0
 DotsSound r ts =
-    ((out : Outcome) → runs (Some (BankNumber r)) ts ≡ Some out → IsBanked AreDotted r ts out) × ((line n : ℕ) (out : Outcome) → runs (Some (BankMore r)) ts ≡ Some out → IsBanked AreDotted r (number_on line n ∷ ts) out)
+    ((out : Outcome) → runs (Some (BankNumber r)) ts ≡ Some out → IsBanked AreDotted r ts out)
+    × ((line n : ℕ) (out : Outcome) → runs (Some (BankMore r)) ts ≡ Some out → IsBanked AreDotted r (number_on line n ∷ ts) out)
 
 dots_sound : (r : Role) (ts : List Placed) → DotsSound r ts
 dots_sound r [] = (λ out e. none_ends e, λ line n out e. none_ends e)
@@ -123,7 +129,14 @@ dots_sound r (p ∷ ts) =
             | inl t ↦
                 (let b : IsBanked AreDotted r ts out = behind.0 out t.on in
                 let is : number_on line n ∷ p ∷ ts ≡ (number_on line n ∷ symbol_on t.line Dot ∷ b.bank) ++ b.rest = cc (t.is, b.is) in
-                record { bank = number_on line n ∷ symbol_on t.line Dot ∷ b.bank; rest = b.rest; is = is; banked = number_before line n t.line b.banked; declared = b.declared })
+                record {
+                  bank = number_on line n ∷ symbol_on t.line Dot
+                      ∷ b.bank;
+                  rest = b.rest;
+                  is = is;
+                  banked = number_before line n t.line b.banked;
+                  declared = b.declared;
+                })
             | inr t ↦ record { bank = number_on line n ∷ []; rest = p ∷ ts; is = refl; banked = last_number line n; declared = typed_sound r p ts out t }
           ],
     )
@@ -151,23 +164,30 @@ record IsSized (p : ParamLine) (ts : List Placed) (out : Outcome) : Type 0 where
 
 abbrev SizesSound : List Placed → Type 0
 SizesSound ts =
-    ((p : ParamLine) (out : Outcome) → runs (Some (Sizes p)) ts ≡ Some out → length p.sizes ≤ 2 → IsSized p ts out) × ((opened : ℕ) (p : ParamLine) (out : Outcome) → runs (Some (SizeNumber p)) ts ≡ Some out → length p.sizes < 2 → IsSized p (symbol_on opened OpenSquare ∷ ts) out) × ((opened line n : ℕ) (p : ParamLine) (out : Outcome) → runs (Some (SizeClose (more_sizes p line n))) ts ≡ Some out → length p.sizes < 2 → IsSized p (symbol_on opened OpenSquare ∷ number_on line n ∷ ts) out)
+    ((p : ParamLine) (out : Outcome) → runs (Some (Sizes p)) ts ≡ Some out → length p.sizes ≤ 2 → IsSized p ts out)
+    × ((opened : ℕ) (p : ParamLine) (out : Outcome) → runs (Some (SizeNumber p)) ts ≡ Some out → length p.sizes < 2
+    → IsSized p (symbol_on opened OpenSquare ∷ ts) out) × ((opened line n : ℕ) (p : ParamLine) (out : Outcome)
+    → runs (Some (SizeClose (more_sizes p line n))) ts ≡ Some out → length p.sizes < 2
+    → IsSized p (symbol_on opened OpenSquare ∷ number_on line n ∷ ts) out)
 
 no_sizes : (p : ParamLine) (out : Outcome) → Some (ends (Param p)) ≡ Some out → length p.sizes ≤ 2 → IsSized p [] out
 unfolding with_sizes
 no_sizes p out e few =
-    let same : record { ty = p.ty; name = p.name; sizes = p.sizes ++ [] } ≡ p = ap (λ ss. record { ty = p.ty; name = p.name; sizes = ss }) (append-nil p.sizes) in
+    let same : record { ty = p.ty; name = p.name; sizes = p.sizes ++ [] } ≡ p = ap (λ ss. record { ty = p.ty; name = p.name; sizes = ss })
+    (append-nil p.sizes) in
     let is : ends (Param (record { ty = p.ty; name = p.name; sizes = p.sizes ++ [] })) ≡ out = cc in
     record { sizes = []; are = no_size; few = omega (arith, few); out_is = is }
 
-one_size : (opened line n closed : ℕ) (p : ParamLine) (ts : List Placed) (out : Outcome) → IsSized (more_sizes p line n) ts out → IsSized p (symbol_on opened OpenSquare ∷ number_on line n ∷ symbol_on closed CloseSquare ∷ ts) out
+one_size : (opened line n closed : ℕ) (p : ParamLine) (ts : List Placed) (out : Outcome) → IsSized (more_sizes p line n) ts out
+    → IsSized p (symbol_on opened OpenSquare ∷ number_on line n ∷ symbol_on closed CloseSquare ∷ ts) out
 unfolding with_sizes
 one_size opened line n closed p ts out s =
     record {
       sizes = record { line = line; value = n } ∷ s.sizes;
       are = size_before opened line n closed s.are;
       few = omega (arith, length-append p.sizes (record { line = line; value = n } ∷ []), s.few);
-      out_is = ap (λ ss. ends (Param (record { ty = p.ty; name = p.name; sizes = ss }))) (sym (append_assoc p.sizes (record { line = line; value = n } ∷ []) s.sizes)) ∙ s.out_is;
+      out_is = ap (λ ss. ends (Param (record { ty = p.ty; name = p.name; sizes = ss })))
+          (sym (append_assoc p.sizes (record { line = line; value = n } ∷ []) s.sizes)) ∙ s.out_is;
     }
 
 sizes_sound : (ts : List Placed) → SizesSound ts
@@ -182,8 +202,10 @@ sizes_sound (q ∷ ts) =
           subst (λ x. IsSized p (symbol_on opened OpenSquare ∷ x ∷ ts) out) (sym t.is) (behind.2 opened t.line t.number p out t.on few)),
       λ opened line n p out e few.
           (let t : TakesSymbol CloseSquare q (Sizes (more_sizes p line n)) ts out = size_close_taken q.line ts out (more_sizes p line n) q.token e in
-          let room : length (p.sizes ++ record { line = line; value = n } ∷ []) ≤ 2 = omega (arith, length-append p.sizes (record { line = line; value = n } ∷ []), few) in
-          subst (λ x. IsSized p (symbol_on opened OpenSquare ∷ number_on line n ∷ x ∷ ts) out) (sym t.is) (one_size opened line n t.line p ts out (behind.0 (more_sizes p line n) out t.on room))),
+          let room : length (p.sizes ++ record { line = line; value = n } ∷ []) ≤ 2 = omega
+          (arith, length-append p.sizes (record { line = line; value = n } ∷ []), few) in
+          subst (λ x. IsSized p (symbol_on opened OpenSquare ∷ number_on line n ∷ x ∷ ts) out) (sym t.is)
+          (one_size opened line n t.line p ts out (behind.0 (more_sizes p line n) out t.on room))),
     )
 
 with_items : TileSoFar → List Extent → TileSoFar
@@ -235,7 +257,8 @@ record IsSided (l : LeftSide) (ts : List Placed) (out : Outcome) : Type 0 where
   parted : AreParted IsComponent inside offsets
   out_is : lines (with_offsets l offsets) ≡ out
 
-equals_sound : (l : LeftSide) (ts : List Placed) (out : Outcome) → runs (Some (Equals l)) ts ≡ Some out → (equals : ℕ) × (ts ≡ symbol_on equals EqualSign ∷ []) × (lines l ≡ out)
+equals_sound : (l : LeftSide) (ts : List Placed) (out : Outcome) → runs (Some (Equals l)) ts ≡ Some out
+    → (equals : ℕ) × (ts ≡ symbol_on equals EqualSign ∷ []) × (lines l ≡ out)
 equals_sound l [] out e = none_ends e
 equals_sound l (p ∷ ts) out e =
     let t : TakesSymbol EqualSign p (Formula l) ts out = equals_taken p.line ts out l p.token e in
@@ -245,7 +268,10 @@ equals_sound l (p ∷ ts) out e =
 
 abbrev SidesSound : List Placed → Type 0
 SidesSound ts =
-    ((l : LeftSide) (out : Outcome) → runs (Some (Component l)) ts ≡ Some out → IsSided l ts out) × ((l : LeftSide) (minus : ℕ) (out : Outcome) → runs (Some (Magnitude l)) ts ≡ Some out → IsSided l (symbol_on minus MinusSign ∷ ts) out) × ((l : LeftSide) (o : ℤ) (us : List Placed) (out : Outcome) → IsComponent us o → runs (Some (ComponentMore (more_offsets l o))) ts ≡ Some out → IsSided l (us ++ ts) out)
+    ((l : LeftSide) (out : Outcome) → runs (Some (Component l)) ts ≡ Some out → IsSided l ts out)
+    × ((l : LeftSide) (minus : ℕ) (out : Outcome) → runs (Some (Magnitude l)) ts ≡ Some out → IsSided l (symbol_on minus MinusSign ∷ ts) out)
+    × ((l : LeftSide) (o : ℤ) (us : List Placed) (out : Outcome) → IsComponent us o → runs (Some (ComponentMore (more_offsets l o))) ts ≡ Some out
+    → IsSided l (us ++ ts) out)
 
 sides_sound : (ts : List Placed) → SidesSound ts
 unfolding with_offsets
@@ -259,23 +285,28 @@ sides_sound (q ∷ ts) =
           ],
       λ l minus out e.
           (let t : TakesNumber q _ ts out = magnitude_taken q.line ts out l q.token e in
-          subst (λ x. IsSided l (symbol_on minus MinusSign ∷ x ∷ ts) out) (sym t.is) (behind.2 l _ (symbol_on minus MinusSign ∷ number_on t.line t.number ∷ []) out (back minus t.line t.number) t.on)),
+          subst (λ x. IsSided l (symbol_on minus MinusSign ∷ x ∷ ts) out) (sym t.is)
+          (behind.2 l _ (symbol_on minus MinusSign ∷ number_on t.line t.number ∷ []) out (back minus t.line t.number) t.on)),
       λ l o us out c e.
           elim (component_more_taken q.line ts out (more_offsets l o) q.token e) [
             | inl t ↦
                 (let b : IsSided (more_offsets l o) ts out = behind.0 (more_offsets l o) out t.on in
-                let tail : q ∷ ts ≡ symbol_on t.line Comma ∷ (b.inside ++ symbol_on b.closed CloseRound ∷ symbol_on b.equals EqualSign ∷ []) = cc (t.is, b.is) in
+                let tail : q ∷ ts ≡ symbol_on t.line Comma ∷ (b.inside ++ symbol_on b.closed CloseRound ∷ symbol_on b.equals EqualSign ∷ []) = cc
+                (t.is, b.is) in
                 record {
                   inside = us ++ symbol_on t.line Comma ∷ b.inside;
                   closed = b.closed;
                   equals = b.equals;
                   offsets = o ∷ b.offsets;
-                  is = ap (λ x. us ++ x) tail ∙ sym (append_assoc us (symbol_on t.line Comma ∷ b.inside) (symbol_on b.closed CloseRound ∷ symbol_on b.equals EqualSign ∷ []));
+                  is = ap (λ x. us ++ x) tail ∙ sym (append_assoc us (symbol_on t.line Comma ∷ b.inside)
+                      (symbol_on b.closed CloseRound ∷ symbol_on b.equals EqualSign ∷ []));
                   parted = item_before t.line c b.parted;
-                  out_is = ap (λ os. lines (record { role = l.role; ty = l.ty; name = l.name; offsets = os })) (sym (append_assoc l.offsets (o ∷ []) b.offsets)) ∙ b.out_is;
+                  out_is = ap (λ os. lines (record { role = l.role; ty = l.ty; name = l.name; offsets = os }))
+                      (sym (append_assoc l.offsets (o ∷ []) b.offsets)) ∙ b.out_is;
                 })
             | inr t ↦
-                (let b : (equals : ℕ) × (ts ≡ symbol_on equals EqualSign ∷ []) × (lines (more_offsets l o) ≡ out) = equals_sound (more_offsets l o) ts out t.on in
+                (let b : (equals : ℕ) × (ts ≡ symbol_on equals EqualSign ∷ [])
+                × (lines (more_offsets l o) ≡ out) = equals_sound (more_offsets l o) ts out t.on in
                 let tail : q ∷ ts ≡ symbol_on t.line CloseRound ∷ symbol_on b.0 EqualSign ∷ [] = cc (t.is, b.1) in
                 record { inside = us; closed = t.line; equals = b.0; offsets = o ∷ []; is = ap (λ x. us ++ x) tail; parted = last_item c; out_is = b.2 })
           ],
@@ -289,14 +320,18 @@ record IsSide (r : Role) (ts : List Placed) (out : Outcome) : Type 0 where
   side : IsLeftSide ts ty name left
   out_is : lines (record { role = r; ty = ty; name = name; offsets = left }) ≡ out
 
-opened_sound : (r : Role) (ts : List Placed) (out : Outcome) (ty name : Word) (colon : ℕ) (rest : List Placed) → ts ≡ word_on ty ∷ symbol_on colon Colon ∷ word_on name ∷ rest → MayBeType ty → runs (Some (OffsetsOpen (left_side r ty name))) rest ≡ Some out → IsSide r ts out
+opened_sound : (r : Role) (ts : List Placed) (out : Outcome) (ty name : Word) (colon : ℕ) (rest : List Placed)
+    → ts ≡ word_on ty ∷ symbol_on colon Colon ∷ word_on name ∷ rest → MayBeType ty → runs (Some (OffsetsOpen (left_side r ty name))) rest ≡ Some out
+    → IsSide r ts out
 unfolding with_offsets
 opened_sound r ts out ty name colon [] is may e = none_ends e
 opened_sound r ts out ty name colon (p ∷ rest) is may e =
     let t : TakesSymbol OpenRound p (Component (left_side r ty name)) rest out = offsets_taken p.line rest out (left_side r ty name) p.token e in
     let s : IsSided (left_side r ty name) rest out = (sides_sound rest).0 (left_side r ty name) out t.on in
-    let parts : rest ≡ (s.inside ++ symbol_on s.closed CloseRound ∷ []) ++ symbol_on s.equals EqualSign ∷ [] = s.is ∙ sym (append_assoc s.inside (symbol_on s.closed CloseRound ∷ []) (symbol_on s.equals EqualSign ∷ [])) in
-    let whole : ts ≡ word_on ty ∷ symbol_on colon Colon ∷ word_on name ∷ ((symbol_on t.line OpenRound ∷ (s.inside ++ symbol_on s.closed CloseRound ∷ [])) ++ symbol_on s.equals EqualSign ∷ []) = cc (t.is, parts, is) in
+    let parts : rest ≡ (s.inside ++ symbol_on s.closed CloseRound ∷ []) ++ symbol_on s.equals EqualSign ∷ [] = s.is
+    ∙ sym (append_assoc s.inside (symbol_on s.closed CloseRound ∷ []) (symbol_on s.equals EqualSign ∷ [])) in
+    let whole : ts ≡ word_on ty ∷ symbol_on colon Colon ∷ word_on name ∷
+    ((symbol_on t.line OpenRound ∷ (s.inside ++ symbol_on s.closed CloseRound ∷ [])) ++ symbol_on s.equals EqualSign ∷ []) = cc (t.is, parts, is) in
     record {
       ty = ty;
       name = name;
@@ -316,21 +351,34 @@ local_sound : (line : ℕ) (ts : List Placed) (out : Outcome) → runs (Some (Ty
 local_sound line ts out e =
     let d : IsDeclared Middle ts out = declared_sound Middle ts out e in
     let s : IsSide Middle ts out = opened_sound Middle ts out d.ty d.name d.colon d.rest d.is d.may d.on in
-    subst (λ o. IsAs o (name_on line (codes "local") ∷ ts)) s.out_is (as_head (local_head s.ty s.name s.left (record { line = line; rest = ts; is = refl; side = s.side })))
+    subst (λ o. IsAs o (name_on line (codes "local") ∷ ts)) s.out_is (as_head
+    (local_head s.ty s.name s.left (record { line = line; rest = ts; is = refl; side = s.side })))
 
 output_sound : (line : ℕ) (ts : List Placed) (out : Outcome) → runs (Some (BankOrType Target)) ts ≡ Some out → IsAs out (name_on line (codes "output") ∷ ts)
 output_sound line ts out e =
     let b : IsBanked IsBank Target ts out = banked_sound Target ts out e in
     let d : IsDeclared Target b.rest out = b.declared in
     let s : IsSide Target b.rest out = opened_sound Target b.rest out d.ty d.name d.colon d.rest d.is d.may d.on in
-    subst (λ o. IsAs o (name_on line (codes "output") ∷ ts)) s.out_is (as_head (output_head s.ty s.name s.left (record { line = line; bank = b.bank; rest = b.rest; is = ap (λ x. name_on line (codes "output") ∷ x) b.is; banked = b.banked; side = s.side })))
+    subst (λ o. IsAs o (name_on line (codes "output") ∷ ts)) s.out_is (as_head
+    (output_head s.ty s.name s.left (record {
+      line = line;
+      bank = b.bank;
+      rest = b.rest;
+      is = ap
+          (λ x. name_on line (codes "output") ∷ x) b.is;
+      banked = b.banked;
+      side = s.side;
+    })))
 
 param_sound : (line : ℕ) (ts : List Placed) (out : Outcome) → runs (Some (TypeWord Parameter)) ts ≡ Some out → IsAs out (name_on line (codes "param") ∷ ts)
 unfolding with_sizes
 param_sound line ts out e =
     let d : IsDeclared Parameter ts out = declared_sound Parameter ts out e in
-    let s : IsSized (record { ty = d.ty; name = d.name; sizes = [] }) d.rest out = (sizes_sound d.rest).0 (record { ty = d.ty; name = d.name; sizes = [] }) out d.on (omega arith) in
-    subst (λ o. IsAs o (name_on line (codes "param") ∷ ts)) s.out_is (subst (λ x. IsAs (ends (Param (record { ty = d.ty; name = d.name; sizes = s.sizes }))) (name_on line (codes "param") ∷ x)) (sym d.is) (as_statement (a_param line d.colon d.ty d.name d.may s.are (omega (arith, s.few)))))
+    let s : IsSized (record { ty = d.ty; name = d.name; sizes = [] }) d.rest out = (sizes_sound d.rest).0
+    (record { ty = d.ty; name = d.name; sizes = [] }) out d.on (omega arith) in
+    subst (λ o. IsAs o (name_on line (codes "param") ∷ ts)) s.out_is (subst
+    (λ x. IsAs (ends (Param (record { ty = d.ty; name = d.name; sizes = s.sizes }))) (name_on line (codes "param") ∷ x)) (sym d.is)
+    (as_statement (a_param line d.colon d.ty d.name d.may s.are (omega (arith, s.few)))))
 
 -- the tile of an input, or none
 record IsTileAt (ty name : Word) (ts : List Placed) (out : Outcome) : Type 0 where
@@ -338,16 +386,23 @@ record IsTileAt (ty name : Word) (ts : List Placed) (out : Outcome) : Type 0 whe
   is : IsTile ts tile
   out_is : ends (Input (record { ty = ty; name = name; tile = tile })) ≡ out
 
-tile_at_sound : (ty name : Word) (ts : List Placed) (out : Outcome) → runs (Some (TileOrEnd (record { ty = ty; name = name; items = [] }))) ts ≡ Some out → IsTileAt ty name ts out
+tile_at_sound : (ty name : Word) (ts : List Placed) (out : Outcome) → runs
+    (Some (TileOrEnd (record { ty = ty; name = name; items = [] }))) ts ≡ Some out → IsTileAt ty name ts out
 unfolding with_items
 tile_at_sound ty name [] out e =
     let is : ends (Input (record { ty = ty; name = name; tile = None })) ≡ out = cc in
     record { tile = None; is = no_tile; out_is = is }
 tile_at_sound ty name (p ∷ ts) out e =
-    let t : TakesSymbol OpenRound p (TileItem (record { ty = ty; name = name; items = [] })) ts out = tile_taken p.line ts out (record { ty = ty; name = name; items = [] }) p.token e in
+    let t : TakesSymbol OpenRound p (TileItem (record { ty = ty; name = name; items = [] })) ts out = tile_taken p.line ts out
+    (record { ty = ty; name = name; items = [] }) p.token e in
     let s : IsTiled (record { ty = ty; name = name; items = [] }) ts out = tile_sound ts (record { ty = ty; name = name; items = [] }) out t.on in
     let whole : p ∷ ts ≡ symbol_on t.line OpenRound ∷ (s.inside ++ symbol_on s.closed CloseRound ∷ []) = cc (t.is, s.is) in
-    record { tile = Some s.items; is = a_tile (record { opened = t.line; inside = s.inside; closed = s.closed; is = whole; item = s.parted }); out_is = s.out_is }
+    record {
+      tile = Some s.items;
+      is = a_tile
+          (record { opened = t.line; inside = s.inside; closed = s.closed; is = whole; item = s.parted });
+      out_is = s.out_is;
+    }
 
 input_sound : (line : ℕ) (ts : List Placed) (out : Outcome) → runs (Some (BankOrType Source)) ts ≡ Some out → IsAs out (name_on line (codes "input") ∷ ts)
 input_sound line ts out e =
@@ -355,7 +410,9 @@ input_sound line ts out e =
     let d : IsDeclared Source b.rest out = b.declared in
     let t : IsTileAt d.ty d.name d.rest out = tile_at_sound d.ty d.name d.rest out d.on in
     let whole : ts ≡ b.bank ++ word_on d.ty ∷ symbol_on d.colon Colon ∷ word_on d.name ∷ d.rest = b.is ∙ ap (λ x. b.bank ++ x) d.is in
-    subst (λ o. IsAs o (name_on line (codes "input") ∷ ts)) t.out_is (subst (λ x. IsAs (ends (Input (record { ty = d.ty; name = d.name; tile = t.tile }))) (name_on line (codes "input") ∷ x)) (sym whole) (as_statement (an_input line d.colon d.ty d.name b.banked d.may t.is)))
+    subst (λ o. IsAs o (name_on line (codes "input") ∷ ts)) t.out_is (subst
+    (λ x. IsAs (ends (Input (record { ty = d.ty; name = d.name; tile = t.tile }))) (name_on line (codes "input") ∷ x)) (sym whole)
+    (as_statement (an_input line d.colon d.ty d.name b.banked d.may t.is)))
 
 burst_sound : (line : ℕ) (ts : List Placed) (out : Outcome) → runs (Some (WidthWord line)) ts ≡ Some out → IsAs out (name_on line (codes "burst") ∷ ts)
 burst_sound line [] out e = none_ends e

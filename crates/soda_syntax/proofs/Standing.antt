@@ -70,7 +70,8 @@ begins_stands ts (rest, s, is) =
       | inr k ↦
           elim (compare ts k.head rest k.part k.is) [
             | inl b ↦
-                (let f : (x : Stage) × (steps (Some Start) ts ≡ Some x) = steps-front ts b.more (Some Start) (Formula k.left) (ap (steps (Some Start)) (sym b.front) ∙ k.read) in stands_at ts f.0 f.1)
+                (let f : (x : Stage) × (steps (Some Start) ts ≡ Some x) = steps-front ts b.more (Some Start) (Formula k.left)
+                (ap (steps (Some Start)) (sym b.front) ∙ k.read) in stands_at ts f.0 f.1)
             | inr b ↦ in_formula k.head (b.first ∷ b.more) k.left b.front k.read (rest, k.formula, subst (λ x. IsFormula x k.formula) b.rest k.whole)
           ]
     ]
@@ -78,20 +79,23 @@ begins_stands ts (rest, s, is) =
 -- the steps behind these tokens refuse this one
 pub data Refuses (ts : List Placed) (t : Placed) : Type 0 where
   head_refuses : (s : Stage) → steps (Some Start) ts ≡ Some s → left_of s ≡ None → stage_of (step s t) ≡ None → Refuses ts t
-  formula_refuses : (head part : List Placed) (l : LeftSide) → ts ≡ head ++ part → steps (Some Start) head ≡ Some (Formula l) → (BeginsFormula (part ++ t ∷ []) → ⊥) → Refuses ts t
+  formula_refuses : (head part : List Placed) (l : LeftSide) → ts ≡ head ++ part → steps (Some Start) head ≡ Some (Formula l)
+      → (BeginsFormula (part ++ t ∷ []) → ⊥) → Refuses ts t
 
 -- behind the equals sign no step goes on
 no_steps : {A : Type 0} (l : LeftSide) (part : List Placed) (t : Placed) (s : Stage) → steps (Some (Formula l)) (part ++ t ∷ []) ≡ Some s → A
 no_steps l [] t s e = absurd (some_not_none (sym e ∙ steps-formula l t []))
 no_steps l (p ∷ part) t s e = absurd (some_not_none (sym e ∙ steps-formula l p (part ++ t ∷ [])))
 
-head_stuck : (ts : List Placed) (t : Placed) (s : Stage) → steps (Some Start) ts ≡ Some s → left_of s ≡ None → stage_of (step s t) ≡ None → Stands (ts ++ t ∷ []) → ⊥
+head_stuck : (ts : List Placed) (t : Placed) (s : Stage) → steps (Some Start) ts ≡ Some s → left_of s ≡ None → stage_of (step s t) ≡ None
+    → Stands (ts ++ t ∷ []) → ⊥
 head_stuck ts t s e nf r (in_head x f g) =
     some_not_none (sym f ∙ (steps-append (Some Start) ts (t ∷ []) ∙ (ap (λ o. steps o (t ∷ [])) e ∙ r)))
 head_stuck ts t s e nf r (in_formula head part l is f b) =
     elim (compare ts head (t ∷ []) part is) [
       | inl k ↦ beyond k.more k.front k.rest
-      | inr k ↦ some_not_none (sym e ∙ (ap (steps (Some Start)) k.front ∙ (steps-append (Some Start) head (k.first ∷ k.more) ∙ (ap (λ o. steps o (k.first ∷ k.more)) f ∙ steps-formula l k.first k.more))))
+      | inr k ↦ some_not_none (sym e ∙ (ap (steps (Some Start)) k.front
+          ∙ (steps-append (Some Start) head (k.first ∷ k.more) ∙ (ap (λ o. steps o (k.first ∷ k.more)) f ∙ steps-formula l k.first k.more))))
     ]
   where
     beyond : (z : List Placed) → head ≡ ts ++ z → t ∷ [] ≡ z ++ part → ⊥
@@ -101,11 +105,14 @@ head_stuck ts t s e nf r (in_formula head part l is f b) =
         some_not_none (ap left_of stage ∙ nf)
     beyond (u ∷ z) h k =
         let first : t ≡ u = cc in
-        some_not_none (sym f ∙ (ap (steps (Some Start)) h ∙ (steps-append (Some Start) ts (u ∷ z) ∙ (ap (λ o. steps o (u ∷ z)) e ∙ (ap (λ x. steps (stage_of (step s x)) z) (sym first) ∙ (ap (λ o. steps o z) r ∙ steps-none z))))))
+        some_not_none (sym f ∙ (ap (steps (Some Start)) h ∙ (steps-append (Some Start) ts (u ∷ z)
+        ∙ (ap (λ o. steps o (u ∷ z)) e ∙ (ap (λ x. steps (stage_of (step s x)) z) (sym first) ∙ (ap (λ o. steps o z) r ∙ steps-none z))))))
 
-formula_stuck : (ts : List Placed) (t : Placed) (head part : List Placed) (l : LeftSide) → ts ≡ head ++ part → steps (Some Start) head ≡ Some (Formula l) → (BeginsFormula (part ++ t ∷ []) → ⊥) → Stands (ts ++ t ∷ []) → ⊥
+formula_stuck : (ts : List Placed) (t : Placed) (head part : List Placed) (l : LeftSide) → ts ≡ head ++ part
+    → steps (Some Start) head ≡ Some (Formula l) → (BeginsFormula (part ++ t ∷ []) → ⊥) → Stands (ts ++ t ∷ []) → ⊥
 formula_stuck ts t head part l is e nb (in_head x f g) =
-    no_steps l part t x (sym (ap (λ o. steps o (part ++ t ∷ [])) e) ∙ (sym (steps-append (Some Start) head (part ++ t ∷ [])) ∙ (ap (steps (Some Start)) (sym (append_assoc head part (t ∷ []))) ∙ (ap (λ y. steps (Some Start) (y ++ t ∷ [])) (sym is) ∙ f))))
+    no_steps l part t x (sym (ap (λ o. steps o (part ++ t ∷ [])) e) ∙ (sym (steps-append (Some Start) head (part ++ t ∷ []))
+    ∙ (ap (steps (Some Start)) (sym (append_assoc head part (t ∷ []))) ∙ (ap (λ y. steps (Some Start) (y ++ t ∷ [])) (sym is) ∙ f))))
 formula_stuck ts t head part l is e nb (in_formula h p m js f b) =
     let both : head ++ (part ++ t ∷ []) ≡ h ++ p = sym (append_assoc head part (t ∷ [])) ∙ (ap (λ y. y ++ t ∷ []) (sym is) ∙ js) in
     let o : (head ≡ h) × (part ++ t ∷ [] ≡ p) × (l ≡ m) = one_head head h (part ++ t ∷ []) p l m both e f in
@@ -136,6 +143,8 @@ name_ends {ts} {s} u is (rest, r, b) more =
     let n : (line : ℕ) × (w : List ℕ) × (others : List Placed) × (u ∷ rest ≡ name_on line w ∷ others) = first_name b in
     let named : u ≡ name_on n.0 n.1 = cc (n.3) in
     elim (complete is) [
-      | inl p ↦ stuck ts u (head_refuses p.stage p.read (finished_no_formula p.stage p.end p.ended) (subst (λ x. stage_of (step p.stage x) ≡ None) (sym named) (whole_refuses p.stage p.end n.0 n.1 p.ended))) more
-      | inr k ↦ stuck ts u (formula_refuses k.head k.part k.left k.is k.read (subst (λ x. BeginsFormula (k.part ++ x ∷ []) → ⊥) (sym named) (name_ends_formula k.part k.formula n.0 n.1 k.whole))) more
+      | inl p ↦ stuck ts u (head_refuses p.stage p.read (finished_no_formula p.stage p.end p.ended)
+          (subst (λ x. stage_of (step p.stage x) ≡ None) (sym named) (whole_refuses p.stage p.end n.0 n.1 p.ended))) more
+      | inr k ↦ stuck ts u (formula_refuses k.head k.part k.left k.is k.read
+          (subst (λ x. BeginsFormula (k.part ++ x ∷ []) → ⊥) (sym named) (name_ends_formula k.part k.formula n.0 n.1 k.whole))) more
     ]

@@ -60,7 +60,8 @@ pub one_more : (xs : List Placed) (u : Placed) (z : List Placed) → BeginsState
 one_more xs u z b = begins_front (xs ++ u ∷ []) z (subst BeginsStatement (sym (append_assoc xs (u ∷ []) z)) b)
 
 -- what stands behind whole statements begins with a token that begins a statement
-pub tail_begins : {us : List Placed} {ss : List PlainStatement} (x : List Placed) (u : Placed) (z : List Placed) → AreStatements us ss → BeginsStatement x → us ++ x ≡ u ∷ z → BeginsStatement (u ∷ [])
+pub tail_begins : {us : List Placed} {ss : List PlainStatement} (x : List Placed) (u : Placed) (z : List Placed) → AreStatements us ss
+    → BeginsStatement x → us ++ x ≡ u ∷ z → BeginsStatement (u ∷ [])
 tail_begins x u z no_statement b e = one_more [] u z (subst BeginsStatement e b)
 tail_begins x u z (statement_before {ts} {us} st more) b e =
     let n = first_name st in
@@ -80,15 +81,20 @@ pub record Parts (ts : List Placed) : Type 0 where
 pub parts_of_begun : (ts : List Placed) → BeginsStatement ts → Parts ts
 parts_of_begun ts b = record { before = []; statements = []; tail = ts; is = refl; whole = no_statement; begun = b }
 
-statements_snoc : {ts us : List Placed} {ss : List PlainStatement} {s : PlainStatement} → AreStatements ts ss → IsStatement us s → AreStatements (ts ++ us) (ss ++ s ∷ [])
+statements_snoc : {ts us : List Placed} {ss : List PlainStatement} {s : PlainStatement} → AreStatements ts ss → IsStatement us s
+    → AreStatements (ts ++ us) (ss ++ s ∷ [])
 statements_snoc {us = us} {s = s} no_statement st = subst (λ x. AreStatements x (s ∷ [])) (append-nil us) (statement_before st no_statement)
 statements_snoc {us = vs} {s = r} (statement_before {ts} {us} {s} {ss} first more) st =
     subst (λ x. AreStatements x (s ∷ (ss ++ r ∷ []))) (sym (append_assoc ts us vs)) (statement_before first (statements_snoc more st))
 
 pub parts_text : (ts : List Placed) → Parts ts → BeginsText ts
 parts_text ts p =
-    let b : BeginsStatement p.tail = p.begun in
-    (b.0, p.statements ++ b.1 ∷ [], subst (λ x. AreStatements x (p.statements ++ b.1 ∷ [])) (sym (append_assoc p.before p.tail b.0) ∙ ap (λ x. x ++ b.0) (sym p.is)) (statements_snoc p.whole b.2))
+    let b : BeginsStatement p.tail = p.begun in (
+      b.0,
+      p.statements ++ b.1 ∷ [],
+      subst (λ x. AreStatements x (p.statements ++ b.1 ∷ []))
+          (sym (append_assoc p.before p.tail b.0) ∙ ap (λ x. x ++ b.0) (sym p.is)) (statements_snoc p.whole b.2),
+    )
 
 pub parts_before : {a : List Placed} {s : PlainStatement} (w : List Placed) → IsStatement a s → Parts w → Parts (a ++ w)
 parts_before {a} {s} w st p =
@@ -121,19 +127,32 @@ pub record IsCut (front w before x : List Placed) (ss : List PlainStatement) : T
   pub are : AreStatements others statements
   pub rest : w ≡ others ++ x
 
-pub cut : {front rest : List Placed} {s : PlainStatement} → IsRead front rest s → (w y : List Placed) → rest ≡ w ++ y → {before : List Placed} {ss : List PlainStatement} → AreStatements before ss → (x : List Placed) → BeginsStatement x → front ++ w ≡ before ++ x → ((before ≡ []) × (w ≡ []) × (x ≡ front)) ⊎ IsCut front w before x ss
+pub cut : {front rest : List Placed} {s : PlainStatement} → IsRead front rest s → (w y : List Placed) → rest ≡ w ++ y
+    → {before : List Placed} {ss : List PlainStatement} → AreStatements before ss → (x : List Placed) → BeginsStatement x → front ++ w ≡ before ++ x
+    → ((before ≡ []) × (w ≡ []) × (x ≡ front)) ⊎ IsCut front w before x ss
 cut {front} r [] y e no_statement x b eq = inl (refl, refl, sym eq ∙ append-nil front)
 cut {front} r (u ∷ z) y e no_statement x b eq = absurd (r.ended u (z ++ y) e (one_more front u z (subst BeginsStatement (sym eq) b)))
 cut {front} {rest} r w y e (statement_before {ts} {us} {s} {ss} st more) x b eq =
     elim (compare front ts w (us ++ x) (eq ∙ append_assoc ts us x)) [
       | inl k ↦ beyond k.more k.front k.rest
-      | inr k ↦ absurd (name_ends k.first st (tail_begins x k.first (k.more ++ w) more b k.rest) (one_more ts k.first k.more (subst BeginsStatement k.front (whole_begins r.whole))))
+      | inr k ↦ absurd (name_ends k.first st (tail_begins x k.first (k.more ++ w) more b k.rest)
+          (one_more ts k.first k.more (subst BeginsStatement k.front (whole_begins r.whole))))
     ]
   where
     beyond : (z : List Placed) → ts ≡ front ++ z → w ≡ z ++ (us ++ x) → ((ts ++ us ≡ []) × (w ≡ []) × (x ≡ front)) ⊎ IsCut front w (ts ++ us) x (s ∷ ss)
     beyond [] f k =
         let same : ts ≡ front = f ∙ append-nil front in
-        inr (record { others = us; first = s; statements = ss; is = ap (λ v. v ++ us) same; whole = subst (λ v. IsStatement v s) same st; all = refl; are = more; rest = k })
+        inr (record {
+          others = us;
+          first = s;
+          statements = ss;
+          is = ap (λ v. v ++ us) same;
+          whole = subst
+              (λ v. IsStatement v s) same st;
+          all = refl;
+          are = more;
+          rest = k;
+        })
     beyond (u ∷ z) f k = absurd (r.ended u ((z ++ (us ++ x)) ++ y) (e ∙ ap (λ v. v ++ y) k) (one_more front u z (subst BeginsStatement f (whole_begins st))))
 
 pub parts_down : {front rest : List Placed} {s : PlainStatement} → IsRead front rest s → (w y : List Placed) → rest ≡ w ++ y → Parts (front ++ w) → Parts w
@@ -143,11 +162,13 @@ parts_down r w y e p =
       | inr k ↦ record { before = k.others; statements = k.statements; tail = p.tail; is = k.rest; whole = k.are; begun = p.begun }
     ]
 
-pub large_down : {front rest : List Placed} {s : PlainStatement} → IsRead front rest s → (w y : List Placed) → rest ≡ w ++ y → IsTooLarge (front ++ w) → IsTooLarge w
+pub large_down : {front rest : List Placed} {s : PlainStatement} → IsRead front rest s → (w y : List Placed) → rest ≡ w ++ y → IsTooLarge (front ++ w)
+    → IsTooLarge w
 large_down {front} r w y e l =
     let p : EndsInFormula (front ++ w) l.part = l.within in
     elim (cut r w y e p.whole (p.head ++ l.part) (line_begins p.head l.part p.left p.begun) p.is) [
-      | inl k ↦ absurd (r.small front [] (sym (append-nil front)) (record { head = p.head; part = l.part; is = sym k.2; left = p.left; begun = p.begun; large = l.large }))
+      | inl k ↦ absurd (r.small front [] (sym (append-nil front))
+          (record { head = p.head; part = l.part; is = sym k.2; left = p.left; begun = p.begun; large = l.large }))
       | inr k ↦
           record {
             part = l.part;
@@ -156,7 +177,8 @@ large_down {front} r w y e l =
           }
     ]
 
-pub whole_down : {front rest : List Placed} {s : PlainStatement} → IsRead front rest s → (w y : List Placed) → rest ≡ w ++ y → (rs : List PlainStatement) → AreStatements (front ++ w) rs → (qs : List PlainStatement) × AreStatements w qs
+pub whole_down : {front rest : List Placed} {s : PlainStatement} → IsRead front rest s → (w y : List Placed) → rest ≡ w ++ y
+    → (rs : List PlainStatement) → AreStatements (front ++ w) rs → (qs : List PlainStatement) × AreStatements w qs
 whole_down {front} {s = s} r w y e rs a =
     elim (cut r w y e a [] nothing_begins (sym (append-nil (front ++ w)))) [
       | inl k ↦ absurd (no_empty (subst (λ v. IsStatement v s) (sym k.2) r.whole))
@@ -207,4 +229,5 @@ inside_small ts b small l = by l.within.whole l.within.is
         split : (z : List Placed) → us ++ (l.within.head ++ l.part) ≡ z → ⊥
         split [] f = nonempty us [] f refl
         split (u ∷ z) f =
-            name_ends u st (tail_begins (l.within.head ++ l.part) u z more (line_begins l.within.head l.part l.within.left l.within.begun) f) (one_more a u z (subst BeginsStatement (e ∙ (append_assoc a us (l.within.head ++ l.part) ∙ ap (λ x. a ++ x) f)) b))
+            name_ends u st (tail_begins (l.within.head ++ l.part) u z more (line_begins l.within.head l.part l.within.left l.within.begun) f)
+            (one_more a u z (subst BeginsStatement (e ∙ (append_assoc a us (l.within.head ++ l.part) ∙ ap (λ x. a ++ x) f)) b))

@@ -31,10 +31,13 @@ pub none_read : (ts : List Placed) → Reads ts [] (drop 0 ts)
 none_read ts = reads_none ts
 
 -- one more statement is read
-pub one_read : (ts : List Placed) (found : List Statement) (at n : ℕ) (s : Statement) → Reads ts (map plain_statement found) (drop at ts) → ReadsStatement (drop at ts) n (plain_statement s) → Reads ts (map plain_statement (found ++ s ∷ [])) (drop (at + n) ts)
+pub one_read : (ts : List Placed) (found : List Statement) (at n : ℕ) (s : Statement) → Reads ts (map plain_statement found) (drop at ts)
+    → ReadsStatement (drop at ts) n (plain_statement s) → Reads ts (map plain_statement (found ++ s ∷ [])) (drop (at + n) ts)
 one_read ts found at n s r is =
-    let more : Reads ts (map plain_statement found ++ plain_statement s ∷ []) (drop n (drop at ts)) = reads_snoc r (take n (drop at ts)) (drop n (drop at ts)) (plain_statement s) (sym (take-append-drop n (drop at ts))) (is_read (drop at ts) n (plain_statement s) is) in
-    subst (Reads ts (map plain_statement (found ++ s ∷ []))) (sym (drop_add at n ts)) (subst (λ x. Reads ts x (drop n (drop at ts))) (sym (map-append plain_statement found (s ∷ []))) more)
+    let more : Reads ts (map plain_statement found ++ plain_statement s ∷ []) (drop n (drop at ts)) = reads_snoc r (take n (drop at ts))
+    (drop n (drop at ts)) (plain_statement s) (sym (take-append-drop n (drop at ts))) (is_read (drop at ts) n (plain_statement s) is) in
+    subst (Reads ts (map plain_statement (found ++ s ∷ []))) (sym (drop_add at n ts))
+    (subst (λ x. Reads ts x (drop n (drop at ts))) (sym (map-append plain_statement found (s ∷ []))) more)
 
 -- a statement has a token
 pub some_read : (ts : List Placed) (n : ℕ) (s : PlainStatement) → ReadsStatement ts n s → 0 < n
@@ -93,7 +96,8 @@ good_start : (p : List Placed) → IsGood p → IsGoodStart p
 good_start p g = record { begins = parts_text p g.parts; small = g.small }
 
 -- reading stops within the tokens or at their end
-pub refused : (ts : List Placed) (ss : List PlainStatement) (at n end line : ℕ) → at < length ts → Reads ts ss (drop at ts) → StopsStatement (drop at ts) n → MatchOption (slice_get ts (at + n)) (line ≡ end) (λ t. line ≡ t.line) → IsRefusedIn ts end line
+pub refused : (ts : List Placed) (ss : List PlainStatement) (at n end line : ℕ) → at < length ts → Reads ts ss (drop at ts)
+    → StopsStatement (drop at ts) n → MatchOption (slice_get ts (at + n)) (line ≡ end) (λ t. line ≡ t.line) → IsRefusedIn ts end line
 refused ts ss at n end line lt r stops told = by (slice_get ts (at + n)) refl
   where
     front : List Placed
@@ -126,13 +130,16 @@ refused ts ss at n end line lt r stops told = by (slice_get ts (at + n)) refl
     good : IsGoodUpTo (at + n) ts
     good j le =
         let same : take j ts ≡ take j so_far.less = ap (take j) so_far.is ∙ take-append-le j so_far.less (drop n (drop at ts)) (omega (arith, le, size)) in
-        subst IsGoodStart (sym same) (good_start (take j so_far.less) (good_front so_far.reads stop (take j so_far.less) (drop j so_far.less) (sym (take-append-drop j so_far.less))))
+        subst IsGoodStart (sym same) (good_start (take j so_far.less) (good_front so_far.reads stop (take j so_far.less) (drop j so_far.less)
+        (sym (take-append-drop j so_far.less))))
 
     wrong : (t : Placed) → slice_get ts (at + n) ≡ Some t → IsGoodStart (take (suc (at + n)) ts) → ⊥
     wrong t e g =
         let next : drop n (drop at ts) ≡ t ∷ drop (suc (at + n)) ts = sym rest_is ∙ drop_of_get (at + n) ts t e in
-        let last : drop at ts ≡ (take n (drop at ts) ++ t ∷ []) ++ drop (suc (at + n)) ts = sym (take-append-drop n (drop at ts)) ∙ (ap (λ v. take n (drop at ts) ++ v) next ∙ sym (append_assoc (take n (drop at ts)) (t ∷ []) (drop (suc (at + n)) ts))) in
-        let k : Shrunk ts ss (take n (drop at ts) ++ t ∷ []) (drop (suc (at + n)) ts) = shrink r (take n (drop at ts) ++ t ∷ []) (drop (suc (at + n)) ts) last in
+        let last : drop at ts ≡ (take n (drop at ts) ++ t ∷ []) ++ drop (suc (at + n)) ts = sym (take-append-drop n (drop at ts))
+        ∙ (ap (λ v. take n (drop at ts) ++ v) next ∙ sym (append_assoc (take n (drop at ts)) (t ∷ []) (drop (suc (at + n)) ts))) in
+        let k : Shrunk ts ss (take n (drop at ts) ++ t ∷ []) (drop (suc (at + n)) ts) = shrink r (take n (drop at ts) ++ t ∷ [])
+        (drop (suc (at + n)) ts) last in
         let long : length (drop (suc (at + n)) ts) + suc (at + n) ≡ length ts = omega (arith, ap length next, rest_length) in
         let is : take (suc (at + n)) ts ≡ k.less = front_is ts k.less (drop (suc (at + n)) ts) (suc (at + n)) k.is long in
         wrong_front k.less ss (take n (drop at ts)) (drop n (drop at ts)) t k.reads stop (drop (suc (at + n)) ts) next (subst IsGoodStart is g)
@@ -142,10 +149,12 @@ refused ts ss at n end line lt r stops told = by (slice_get ts (at + n)) refl
         let none : drop n (drop at ts) ≡ [] = sym rest_is ∙ drop_at_none (at + n) ts e in
         let all : at + n ≡ length ts = omega (arith, ap length none, rest_length) in
         let whole : ts ≡ so_far.less = so_far.is ∙ (ap (λ v. so_far.less ++ v) none ∙ append-nil so_far.less) in
-        let some : take n (drop at ts) ≡ [] → ⊥ = λ h. (let nothing : drop at ts ≡ [] = sym (take-append-drop n (drop at ts)) ∙ (ap (λ v. v ++ drop n (drop at ts)) h ∙ none) in absurd (omega (arith, drop_none_short at ts nothing, lt))) in
+        let some : take n (drop at ts) ≡ [] → ⊥ = λ h. (let nothing : drop at ts ≡ [] = sym (take-append-drop n (drop at ts))
+        ∙ (ap (λ v. v ++ drop n (drop at ts)) h ∙ none) in absurd (omega (arith, drop_none_short at ts nothing, lt))) in
         inr (record {
           good = subst (λ k. IsGoodUpTo k ts) all good;
-          no_text = λ rs a. no_end so_far.less ss (take n (drop at ts)) so_far.reads (subst (IsStop (take n (drop at ts))) none stop) some rs (subst (λ x. AreStatements x rs) whole a);
+          no_text = λ rs a. no_end so_far.less ss (take n (drop at ts)) so_far.reads (subst (IsStop (take n (drop at ts))) none stop) some rs
+              (subst (λ x. AreStatements x rs) whole a);
           is = same;
         })
 

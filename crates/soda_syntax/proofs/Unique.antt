@@ -39,7 +39,8 @@ statement_is_one {ts} {s} {r} a b =
           elim (complete b) [
             | inl q ↦ not_both q k
             | inr m ↦
-                (let o : (k.head ≡ m.head) × (k.part ≡ m.part) × (k.left ≡ m.left) = one_head k.head m.head k.part m.part k.left m.left (sym k.is ∙ m.is) k.read m.read in
+                (let o : (k.head ≡ m.head) × (k.part ≡ m.part) × (k.left ≡ m.left) = one_head k.head m.head k.part m.part k.left m.left
+                (sym k.is ∙ m.is) k.read m.read in
                 let f : k.formula ≡ m.formula = formula_is_one k.part k.formula m.formula k.whole (subst (λ x. IsFormula x m.formula) (sym o.1) m.whole) in
                 let line : line_of k.left k.formula ≡ line_of m.left m.formula = ap (λ l. line_of l k.formula) o.2 ∙ ap (line_of m.left) f in
                 sym k.says ∙ (line ∙ m.says))

@@ -21,14 +21,23 @@ use Rattle.soda_syntax.specs.machine.Steps.{step, steps, stage_of, finish, begun
 use Rattle.soda_syntax.specs.machine.Pieces.{left_of, IsAt, ReadsStatement, StopsStatement}
 use Rattle.soda_syntax.proofs.Running.{steps-append}
 
-pub goes_on : (ts : List Placed) (at : ℕ) (stage next : Stage) (t : Placed) → at < length ts → t ≡ get_or ts at t → steps (Some Start) (take at ts) ≡ Some stage → Goes next ≡ step stage t → steps (Some Start) (take (at + 1) ts) ≡ Some next
+pub goes_on : (ts : List Placed) (at : ℕ) (stage next : Stage) (t : Placed) → at < length ts → t ≡ get_or ts at t
+    → steps (Some Start) (take at ts) ≡ Some stage → Goes next ≡ step stage t → steps (Some Start) (take (at + 1) ts) ≡ Some next
 goes_on ts at stage next t lt is read e =
     let one : at + 1 ≡ suc at = omega arith in
-    ap (λ k. steps (Some Start) (take k ts)) one ∙ (ap (steps (Some Start)) (take-suc ts at t lt) ∙ (steps-append (Some Start) (take at ts) (get_or ts at t ∷ []) ∙ (ap (λ o. steps o (get_or ts at t ∷ [])) read ∙ (ap (λ x. stage_of (step stage x)) (sym is) ∙ ap stage_of (sym e)))))
+    ap (λ k. steps (Some Start) (take k ts)) one ∙ (ap (steps (Some Start)) (take-suc ts at t lt)
+    ∙ (steps-append (Some Start) (take at ts) (get_or ts at t ∷ [])
+    ∙ (ap (λ o. steps o (get_or ts at t ∷ [])) read ∙ (ap (λ x. stage_of (step stage x)) (sym is) ∙ ap stage_of (sym e)))))
 
-pub is_at : (ts : List Placed) (at : ℕ) (stage : Stage) (t : Placed) (next : Next) → at < length ts → t ≡ get_or ts at t → steps (Some Start) (take at ts) ≡ Some stage → next ≡ step stage t → stage_of next ≡ None → IsAt ts at stage
+pub is_at : (ts : List Placed) (at : ℕ) (stage : Stage) (t : Placed) (next : Next) → at < length ts → t ≡ get_or ts at t
+    → steps (Some Start) (take at ts) ≡ Some stage → next ≡ step stage t → stage_of next ≡ None → IsAt ts at stage
 is_at ts at stage t next lt is read e none =
-    record { within = omega (arith, lt); read = read; refuses = λ u g. (let same : t ≡ u = is ∙ get_or_from_slice_get ts at u t g in ap (λ x. stage_of (step stage x)) (sym same) ∙ (ap stage_of (sym e) ∙ none)) }
+    record {
+      within = omega (arith, lt);
+      read = read;
+      refuses = λ u g. (let same : t ≡ u = is
+          ∙ get_or_from_slice_get ts at u t g in ap (λ x. stage_of (step stage x)) (sym same) ∙ (ap stage_of (sym e) ∙ none));
+    }
 
 pub at_end : (ts : List Placed) (at : ℕ) (stage : Stage) → length ts ≤ at → steps (Some Start) (take at ts) ≡ Some stage → IsAt ts (length ts) stage
 at_end ts at stage le read =
@@ -47,12 +56,18 @@ if_tells stage false x y p q = q
 
 start_tells : (line : ℕ) (w : List ℕ) → Tells Start (begun line w)
 start_tells line w =
-    if_tells Start (is_word (codes "kernel") w) _ _ refl (if_tells Start (is_word (codes "burst") w) _ _ refl (if_tells Start (is_word (codes "unroll") w) _ _ refl (if_tells Start (is_word (codes "iterate") w) _ _ refl (if_tells Start (is_word (codes "border") w) _ _ refl (if_tells Start (is_word (codes "cluster") w) _ _ refl (if_tells Start (is_word (codes "param") w) _ _ refl (if_tells Start (is_word (codes "input") w) _ _ refl (if_tells Start (is_word (codes "local") w) _ _ refl (if_tells Start (is_word (codes "output") w) _ _ refl refl)))))))))
+    if_tells Start (is_word (codes "kernel") w) _ _ refl (if_tells Start (is_word (codes "burst") w) _ _ refl
+    (if_tells Start (is_word (codes "unroll") w) _ _ refl (if_tells Start (is_word (codes "iterate") w) _ _ refl
+    (if_tells Start (is_word (codes "border") w) _ _ refl (if_tells Start (is_word (codes "cluster") w) _ _ refl
+    (if_tells Start (is_word (codes "param") w) _ _ refl (if_tells Start (is_word (codes "input") w) _ _ refl
+    (if_tells Start (is_word (codes "local") w) _ _ refl (if_tells Start (is_word (codes "output") w) _ _ refl refl)))))))))
 
-value_tells : (setting : Setting) (line : ℕ) (t : Token) → Tells (SettingValue (record { setting = setting; line = line })) (after_colon (record { setting = setting; line = line }) t)
+value_tells : (setting : Setting) (line : ℕ) (t : Token) → Tells (SettingValue (record { setting = setting; line = line }))
+    (after_colon (record { setting = setting; line = line }) t)
 value_tells ProgramName line (Name w) = refl
 value_tells Group line (Name w) = refl
-value_tells Edge line (Name w) = if_tells (SettingValue (record { setting = Edge; line = line })) (is_word (codes "ignore") w) _ _ refl (if_tells (SettingValue (record { setting = Edge; line = line })) (is_word (codes "preserve") w) _ _ refl refl)
+value_tells Edge line (Name w) = if_tells (SettingValue (record { setting = Edge; line = line })) (is_word (codes "ignore") w) _ _ refl
+    (if_tells (SettingValue (record { setting = Edge; line = line })) (is_word (codes "preserve") w) _ _ refl refl)
 value_tells Width line (Number n) = refl
 value_tells Factor line (Number n) = refl
 value_tells Times line (Number n) = refl
@@ -125,10 +140,12 @@ plain_read ts n stage s at e = inl (record { stage = stage; end = s; at = at; en
 pub plain_stop : (ts : List Placed) (n : ℕ) (stage : Stage) → IsAt ts n stage → finish stage ≡ None → left_of stage ≡ None → StopsStatement ts n
 plain_stop ts n stage at e nf = inl (record { stage = stage; at = at; open_ = e; no_formula = nf })
 
-pub whole_read : (ts : List Placed) (at : ℕ) (stage : Stage) (t : Placed) (s : Statement) → at < length ts → t ≡ get_or ts at t → steps (Some Start) (take at ts) ≡ Some stage → Whole s ≡ step stage t → ReadsStatement ts at (plain_statement s)
+pub whole_read : (ts : List Placed) (at : ℕ) (stage : Stage) (t : Placed) (s : Statement) → at < length ts → t ≡ get_or ts at t
+    → steps (Some Start) (take at ts) ≡ Some stage → Whole s ≡ step stage t → ReadsStatement ts at (plain_statement s)
 whole_read ts at stage t s lt is read e = plain_read ts at stage s (is_at ts at stage t (Whole s) lt is read e refl) (whole_finish stage t s e)
 
-pub wrong_stop : (ts : List Placed) (at : ℕ) (stage : Stage) (t : Placed) → at < length ts → t ≡ get_or ts at t → steps (Some Start) (take at ts) ≡ Some stage → left_of stage ≡ None → Wrong ≡ step stage t → StopsStatement ts at
+pub wrong_stop : (ts : List Placed) (at : ℕ) (stage : Stage) (t : Placed) → at < length ts → t ≡ get_or ts at t
+    → steps (Some Start) (take at ts) ≡ Some stage → left_of stage ≡ None → Wrong ≡ step stage t → StopsStatement ts at
 wrong_stop ts at stage t lt is read nf e = plain_stop ts at stage (is_at ts at stage t Wrong lt is read e refl) (wrong_open stage t e) nf
 
 pub no_left : (s : Stage) → ((l : LeftSide) → s ≡ Formula l → ⊥) → left_of s ≡ None

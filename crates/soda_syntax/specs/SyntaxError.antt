@@ -14,10 +14,11 @@ BeginsText ts = (rest : List Placed) × (ss : List PlainStatement) × AreStateme
 -- the tokens are the first word of a local or an output, and so on to the equals sign
 abbrev pub IsHead : List Placed → Type 0
 IsHead ts =
-    (type defined : Word) × (left : List ℤ) × (IsLocalHead ts type defined left ⊎ IsOutputHead ts type defined left)
+    (type defined : Word) × (left : List ℤ)
+    × (IsLocalHead ts type defined left ⊎ IsOutputHead ts type defined left)
 
--- the tokens end within a formula, or at its end, and this much of it stands there: whole statements come before it, and
--- its left side
+-- the tokens end within a formula, or at its end, and this much of it stands there: whole statements come before it,
+-- and its left side
 pub record EndsInFormula (ts part : List Placed) : Type 0 where
   pub before : List Placed
   pub statements : List PlainStatement

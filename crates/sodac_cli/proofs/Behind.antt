@@ -14,6 +14,7 @@ use Rattle.soda_ir.specs.Program.{PlainProgram}
 use Rattle.soda_parse.specs.Text.{Accepts, Refuses, too_long}
 use Rattle.soda_parse.specs.declared.refusal.Refusal.{Refusal}
 use Rattle.soda_parse.specs.declared.refusal.Refusal.TheVariants.{TextTooLong}
+use Rattle.std.proofs.lemmas.Option.{same_Some}
 use Rattle.sodac_cli.specs.declared.status.Status.{Status}
 use Rattle.sodac_cli.specs.declared.status.Status.TheVariants as is
 use Rattle.sodac_cli.specs.Job.{Job, JobFile, PlainJob, array_files, job_files, later_files, plain_job, program_of}
@@ -25,9 +26,6 @@ use Rattle.sodac_cli.specs.Stages.{ReadLog, TextBytes, TextLog}
 use Rattle.sodac_cli.proofs.Begun.{Always, not_opened}
 use Rattle.whole_files.proofs.CallerLemmas.{gots-append}
 use Rattle.sodac_cli.proofs.Logs.{broken_quiet, failure_behind, good_quiet, then_broken, then_clean}
-
-some_same : {A : Type 0} (x y : A) → Some x ≡ Some y → x ≡ y
-some_same x y e = cc
 
 pub same_holding : (s0 s1 : Store) → KeepsBytes s0 s1 → s1.bytes ≡ s0.bytes
 same_holding s0 s1 keeps = fun_ext keeps
@@ -134,22 +132,22 @@ module _ (h : Holding) (j : Job) (bytes : List ℕ) (there : h (program_of j) �
   pub only_program : (p : PlainProgram) → ((q : PlainProgram) → Accepts most_text bytes q → q ≡ p) → (q : PlainProgram) → HasProgram h j q → q ≡ p
   only_program p only q has =
       let P : List ℕ → Type 0 = λ t. Accepts most_text t q in
-      only q (subst P (some_same has.text bytes (sym has.there ∙ there)) has.accepted)
+      only q (subst P (same_Some has.text bytes (sym has.there ∙ there)) has.accepted)
 
   pub not_program : ((q : PlainProgram) → Accepts most_text bytes q → ⊥) → (q : PlainProgram) → HasProgram h j q → ⊥
   not_program none q has =
       let P : List ℕ → Type 0 = λ t. Accepts most_text t q in
-      none q (subst P (some_same has.text bytes (sym has.there ∙ there)) has.accepted)
+      none q (subst P (same_Some has.text bytes (sym has.there ∙ there)) has.accepted)
 
   pub only_refused : (r : Refusal) → ((s : Refusal) → Refuses most_text bytes s → s ≡ r) → (s : Refusal) → HasRefusedText h j s → s ≡ r
   only_refused r first s has =
       let P : List ℕ → Type 0 = λ t. Refuses most_text t s in
-      first s (subst P (some_same has.text bytes (sym has.there ∙ there)) has.refused)
+      first s (subst P (same_Some has.text bytes (sym has.there ∙ there)) has.refused)
 
   pub not_refused : ((s : Refusal) → Refuses most_text bytes s → ⊥) → (s : Refusal) → HasRefusedText h j s → ⊥
   not_refused none s has =
       let P : List ℕ → Type 0 = λ t. Refuses most_text t s in
-      none s (subst P (some_same has.text bytes (sym has.there ∙ there)) has.refused)
+      none s (subst P (same_Some has.text bytes (sym has.there ∙ there)) has.refused)
 
 -- With nothing amiss the status is Ok, or for want of memory; and what isn't built, or is refused, is answered as such.
 module _ (old new : Holding) (j : Job) (before now : ℕ) where

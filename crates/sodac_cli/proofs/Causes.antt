@@ -6,14 +6,12 @@ use Rattle.soda_parse.specs.Text.{Accepts, Refuses, too_long, no_ascii, no_synta
 use Rattle.soda_parse.specs.declared.refusal.Refusal.{Refusal}
 use Rattle.soda_parse.specs.declared.refusal.Refusal.TheVariants.{TextTooLong}
 use Rattle.job_parts.specs.Cells.{AreCells}
+use Rattle.std.proofs.lemmas.Option.{same_Some}
 use Rattle.sodac_cli.specs.declared.status.Status.{Status}
 use Rattle.sodac_cli.specs.declared.status.Status.TheVariants as is
 use Rattle.sodac_cli.specs.Job.{Job, check_job, plain_job}
 use Rattle.soda_words.specs.Limits.{most_text}
 use Rattle.sodac_cli.specs.Meaning.{HasInputs, HasOddInputs, HasProgram, HasRefusedText, Holding, IsBegun, IsBuilt, IsFine, IsOnlyCause, IsRefusedJob, IsUnbuiltJob, KeepsItsLimits, KeepsLimits, PassesItsLimit, PassesLimit, Tells, form, input, limit, many_cells, many_in_all, text}
-
-some_same : {A : Type 0} (x y : A) → Some x ≡ Some y → x ≡ y
-some_same x y e = cc
 
 -- arrays that keep the limits pass none, and pass no two
 keeps_none : (p : PlainProgram) (rows : ℕ) (r : Refusal) → KeepsLimits p rows → PassesLimit p rows r → ⊥
@@ -39,7 +37,7 @@ one_of_its_limits (plain_job j) p r s x y = one_limit p j.rows r s x y
 good_not_odd : (h : Holding) (j : Job) (p q : PlainProgram) → p ≡ q → HasInputs h j p → HasOddInputs h j q → ⊥
 good_not_odd h (check_job program) p q same good odd = absurd odd
 good_not_odd h (plain_job j) p q same good odd =
-    let bytes : good.bytes ≡ odd.bytes = some_same good.bytes odd.bytes (sym good.there ∙ odd.there) in
+    let bytes : good.bytes ≡ odd.bytes = same_Some good.bytes odd.bytes (sym good.there ∙ odd.there) in
     let P : List ℕ → Type 0 = λ t. AreCells (cells_at p j.rows) t good.cells in
     let Q : PlainProgram → Type 0 = λ x. AreCells (cells_at x j.rows) odd.bytes good.cells in
     odd.none good.cells (subst Q same (subst P bytes good.good))

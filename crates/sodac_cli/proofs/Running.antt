@@ -10,6 +10,7 @@ use Rattle.soda_eval.specs.Runs.{HasArrays, HasValues, IsArray, cells_at, define
 use Rattle.soda_ir.specs.Program.{PlainProgram, input_types}
 use Rattle.soda_eval.specs.Sums.{IsSumProgram, sum_program, uint8}
 use Rattle.job_parts.specs.Cells.{AreCells, array_text, parting, run_of, text_from}
+use Rattle.job_parts.proofs.CallerLemmas.{byte_number}
 use Rattle.sodac_cli.specs.Meaning.{text_of}
 
 length-listed : {A : Type 0} (f : ℕ → A) (n : ℕ) → length (listed f n) ≡ n
@@ -37,10 +38,6 @@ module _ (q : PlainProgram) (s : IsSumProgram q) (rows : ℕ) where
   one_a_line = ap run_of s.is
 
 -- an input of good cells is short
-byte_number : (v : ℤ) → InRange uint8 v → (n : ℕ) × (v ≡ pos n) × (n ≤ 255)
-byte_number (pos n) r = (n, refl, omega (arith, ints, r.below))
-byte_number (negsuc n) r = absurd (omega (arith, ints, r.from))
-
 byte_short : (v : ℤ) → InRange uint8 v → length (signed_decimal v) ≤ 3
 byte_short v r =
     let b = byte_number v r in

@@ -1,5 +1,5 @@
 -- Conservation: what a balanced certificate says to every potential.
-use Rattle.std.specs.Prelude.{◌≡◌, ℕ, ◌+◌, ◌*◌, ◌-◌, ◌≤◌, ◌==◌, Bool, ◌+ℤ◌, List, [], ◌∷◌, length, slice_index, slice_set, if◌then◌else◌, nat_lt}
+use Rattle.std.specs.Prelude.{◌≡◌, ℕ, ◌+◌, ◌*◌, ◌-◌, ◌≤◌, ◌==◌, Bool, ◌+ℤ◌, List, length, slice_index, slice_set, if◌then◌else◌, nat_lt}
 use Rattle.delay_net.specs.Sums.{sum_below}
 use Rattle.delay_net.specs.Certificate.{width_if_read, value_of}
 use Rattle.delay_net.specs.pieces.Weighed.{weighed}

@@ -1,23 +1,10 @@
 ghost use Rattle.std.specs.Prelude.{◌≡◌, IfOk};
 
-use super::{Reading, net_of};
+use super::{BLUR, FAR, Reading, net_of};
 use delay_net::{Amounts, DELAY_END, Flow, check, is_balanced, meets, storage, storage_of};
 use std::alloc::{AllocError, Global};
 use std::process::Abort;
 use std::test::Fail;
-
-// Three reads of one tensor by the next, along lines of 2,000 cells, and three along a line.
-const BLUR: [Reading; 6] = [
-    (1, 0, 0),
-    (1, 0, 2000),
-    (1, 0, 4000),
-    (2, 1, 0),
-    (2, 1, 1),
-    (2, 1, 2),
-];
-
-// A wide tensor that is better computed late.
-const FAR: [Reading; 3] = [(1, 0, 0), (2, 0, 1000), (2, 1, 0)];
 
 // Widths, reads and delays, the storage of each tensor, and that of all. There are none where the delays don't
 // meet the windows.

@@ -1,100 +1,57 @@
-use super::{Reading, net_of};
+use super::{BLUR, FAR, Reading, net_of};
 use delay_net::{check, meets};
 use flow_solve::solve;
 use std::alloc::Global;
 use std::process::Abort;
 use std::test::Fail;
 
-// Widths and reads, the plan, and its certificate's holds and needs, or none where they aren't told. The plans of the
-// small nets were found by a search through all assignments.
-type Row<'a> = (&'a [u8], &'a [Reading], &'a [u64], &'a [u32], &'a [u32]);
+// Widths and reads, and the plan.
+type Row<'a> = (&'a [u8], &'a [Reading], &'a [u64]);
 
 fn expect_plan(rt: &impl Abort, alloc: Global, row: Row) -> Result<(), Fail> {
-    let (weights, rows, plan, hold, need) = row;
+    let (weights, rows, plan) = row;
     let net = net_of(rt, alloc, weights, rows)?;
     let (delays, flow) = solve(alloc, &net)?;
     assert_eq!(rt; delays.as_slice(), plan);
     assert!(rt; meets(&net, &delays));
     assert!(rt; check(&net, &delays, &flow));
-    if !hold.is_empty() {
-        assert_eq!(rt; flow.hold.as_slice(), hold);
-        assert_eq!(rt; flow.need.as_slice(), need);
-    }
     Ok(())
 }
 
+// The plans were found by a search through all assignments.
 #[test]
-fn plans(rt: HostRuntime) -> Result<(), Fail> {
-    let rows: [Row; 22] = [
-        (
-            &[16, 16, 16],
-            &[
-                (1, 0, 0),
-                (1, 0, 2000),
-                (1, 0, 4000),
-                (2, 1, 0),
-                (2, 1, 1),
-                (2, 1, 2),
-            ],
-            &[0, 4000, 4002],
-            &[],
-            &[],
-        ),
-        (
-            &[8, 32, 32],
-            &[(1, 0, 0), (2, 0, 1000), (2, 1, 0)],
-            &[0, 1000, 1000],
-            &[8, 0, 32],
-            &[0, 8, 24],
-        ),
+fn plans_of_small_nets(rt: HostRuntime) -> Result<(), Fail> {
+    let rows: [Row; 20] = [
         (
             &[2, 8, 1, 1],
             &[(2, 0, 2), (3, 0, -2), (3, 2, 1), (3, 2, -2)],
             &[0, 0, 2, 3],
-            &[],
-            &[],
         ),
         (
             &[2, 16, 1, 16],
             &[(1, 0, 2), (2, 0, -2), (2, 1, 0)],
             &[0, 2, 2, 0],
-            &[],
-            &[],
         ),
-        (
-            &[8, 16, 8],
-            &[(1, 0, 1), (2, 0, 0), (2, 1, -1)],
-            &[0, 1, 0],
-            &[],
-            &[],
-        ),
+        (&[8, 16, 8], &[(1, 0, 1), (2, 0, 0), (2, 1, -1)], &[0, 1, 0]),
         (
             &[1, 16, 3],
             &[(1, 0, 0), (1, 0, 3), (2, 0, 0), (2, 0, 2)],
             &[0, 3, 2],
-            &[],
-            &[],
         ),
         (
             &[16, 8, 2],
             &[(1, 0, -1), (2, 0, 1), (2, 0, -2)],
             &[0, 0, 1],
-            &[],
-            &[],
         ),
         (
             &[3, 3, 16, 8],
             &[(1, 0, -2), (2, 0, 1), (3, 1, 3), (3, 2, 0), (3, 2, 3)],
             &[0, 0, 1, 4],
-            &[],
-            &[],
         ),
         (
             &[8, 8, 16],
             &[(1, 0, -1), (2, 0, 2), (2, 0, 0), (2, 1, 0), (2, 1, 3)],
             &[1, 0, 3],
-            &[],
-            &[],
         ),
         (
             &[2, 2, 1, 2],
@@ -107,29 +64,13 @@ fn plans(rt: HostRuntime) -> Result<(), Fail> {
                 (3, 2, 1),
             ],
             &[1, 0, 2, 3],
-            &[],
-            &[],
         ),
-        (
-            &[2, 16, 8],
-            &[(1, 0, 3), (2, 0, 0), (2, 1, 1)],
-            &[0, 3, 4],
-            &[],
-            &[],
-        ),
-        (
-            &[1, 8, 8],
-            &[(1, 0, 1), (1, 0, 0), (2, 1, -2)],
-            &[1, 2, 0],
-            &[],
-            &[],
-        ),
+        (&[2, 16, 8], &[(1, 0, 3), (2, 0, 0), (2, 1, 1)], &[0, 3, 4]),
+        (&[1, 8, 8], &[(1, 0, 1), (1, 0, 0), (2, 1, -2)], &[1, 2, 0]),
         (
             &[3, 8, 2, 16],
             &[(2, 0, 2), (2, 1, -1), (3, 1, 3)],
             &[0, 3, 2, 6],
-            &[],
-            &[],
         ),
         (
             &[3, 1, 1, 3],
@@ -142,29 +83,13 @@ fn plans(rt: HostRuntime) -> Result<(), Fail> {
                 (3, 2, 1),
             ],
             &[0, 0, 1, 2],
-            &[],
-            &[],
         ),
-        (
-            &[8, 2, 8],
-            &[(1, 0, 1), (2, 0, -2), (2, 1, 1)],
-            &[0, 1, 2],
-            &[],
-            &[],
-        ),
-        (
-            &[2, 2, 2],
-            &[(2, 0, 2), (2, 1, 3), (2, 1, -1)],
-            &[1, 0, 3],
-            &[],
-            &[],
-        ),
+        (&[8, 2, 8], &[(1, 0, 1), (2, 0, -2), (2, 1, 1)], &[0, 1, 2]),
+        (&[2, 2, 2], &[(2, 0, 2), (2, 1, 3), (2, 1, -1)], &[1, 0, 3]),
         (
             &[3, 2, 16, 16],
             &[(1, 0, -2), (3, 0, 1), (3, 1, -1)],
             &[2, 0, 0, 3],
-            &[],
-            &[],
         ),
         (
             &[2, 16, 1, 2],
@@ -177,22 +102,16 @@ fn plans(rt: HostRuntime) -> Result<(), Fail> {
                 (3, 2, 2),
             ],
             &[0, 2, 3, 5],
-            &[],
-            &[],
         ),
         (
             &[8, 3, 16],
             &[(1, 0, 3), (2, 0, 1), (2, 1, 2), (2, 1, -1)],
             &[0, 3, 5],
-            &[],
-            &[],
         ),
         (
             &[8, 1, 8, 3],
             &[(1, 0, 2), (3, 0, -2), (3, 2, 0)],
             &[2, 4, 0, 0],
-            &[],
-            &[],
         ),
         (
             &[2, 3, 2],
@@ -205,19 +124,26 @@ fn plans(rt: HostRuntime) -> Result<(), Fail> {
                 (2, 1, 0),
             ],
             &[0, 3, 6],
-            &[],
-            &[],
         ),
         (
             &[2, 2, 3],
             &[(1, 0, 2), (2, 0, 0), (2, 1, 2), (2, 1, 3)],
             &[0, 2, 5],
-            &[],
-            &[],
         ),
     ];
     for row in rows {
         expect_plan(&rt, rt.alloc(), row)?;
     }
+    Ok(())
+}
+
+#[test]
+fn plans_of_worked_nets(rt: HostRuntime) -> Result<(), Fail> {
+    expect_plan(&rt, rt.alloc(), (&[16, 16, 16], &BLUR, &[0, 4000, 4002]))?;
+    let net = net_of(&rt, rt.alloc(), &[8, 32, 32], &FAR)?;
+    let (delays, flow) = solve(rt.alloc(), &net)?;
+    assert_eq!(rt; delays.as_slice(), [0, 1000, 1000].as_slice());
+    assert_eq!(rt; flow.hold.as_slice(), [8, 0, 32].as_slice());
+    assert_eq!(rt; flow.need.as_slice(), [0, 8, 24].as_slice());
     Ok(())
 }

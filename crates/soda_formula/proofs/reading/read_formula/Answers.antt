@@ -8,7 +8,8 @@ loop-i-init c =
 
 pub returns-then-is_large-clause-wrong : goal.returns-then-is_large-clause-wrong
 returns-then-is_large-clause-wrong c =
-    stops-large _ _ _ c.in-On.next _ _ _ c.loop-i.invariant (omega arith) c.index-tokens-i.is (fed-on _ _ _ _ c.in-On.is c.in_ok-next.ensures) c.with-size.ensures.brackets c.with-size.ensures.counted c.with-size.ensures.place c.if-is_large.ensures
+    stops-large _ _ _ c.in-On.next _ _ _ c.loop-i.invariant (omega arith) c.index-tokens-i.is
+    (fed-on _ _ _ _ c.in-On.is c.in_ok-next.ensures) c.with-size.ensures.brackets c.with-size.ensures.counted c.with-size.ensures.place c.if-is_large.ensures
 
 pub returns-in-End-clause-found : goal.returns-in-End-clause-found
 returns-in-End-clause-found c =
@@ -20,7 +21,9 @@ returns-in-End-clause-wrong c =
 
 pub loop-i-preserved : goal.loop-i-preserved
 loop-i-preserved c =
-    rw add-one (read-more _ _ _ c.in-On.next _ c.with-size.result _ c.loop-i.invariant (omega arith) c.index-tokens-i.is (fed-on _ _ _ _ c.in-On.is c.in_ok-next.ensures) c.with-size.ensures.brackets c.with-size.ensures.counted c.with-size.ensures.place (search rules) (search rules))
+    rw add-one (read-more _ _ _ c.in-On.next _ c.with-size.result _ c.loop-i.invariant (omega arith) c.index-tokens-i.is
+    (fed-on _ _ _ _ c.in-On.is c.in_ok-next.ensures) c.with-size.ensures.brackets c.with-size.ensures.counted c.with-size.ensures.place
+    (search rules) (search rules))
 
 pub returns-clause-found : goal.returns-clause-found
 returns-clause-found c =

@@ -1,6 +1,6 @@
 //! Runs of `execute`, a row each.
 
-use crate::narrow::Narrow;
+use super::narrow::Narrow;
 use soda_io::{FileCall, FileRole, MemFiles, MemSink};
 use soda_parse::{LimitKind, Refusal};
 use sodac_cli::{Status, execute};
@@ -32,14 +32,15 @@ pub(crate) struct Row {
 }
 
 pub(crate) const SUM3: &[u8] =
-    b"kernel: sum3\nburst width: 8\nunroll factor: 1\ninput uint8: a(*)\noutput uint8: o(0) = a(-1) + a(0) + a(1)\n";
+    b"kernel: sum3\nburst width: 8\nunroll factor: 1\ninput uint8: a(*)\n\
+output uint8: o(0) = a(-1) + a(0) + a(1)\n";
 
 const CELLS: &[u8] = b"1\n2\n4\n8\n16\n";
 
 const SUMS: &[u8] = b"0\n7\n14\n28\n0\n";
 
-const AVG: &[u8] =
-    b"kernel: avg\nburst width: 8\nunroll factor: 1\ninput uint8: a(*)\noutput uint8: o(0) = (a(-1) + a(0) + a(1)) / 3\n";
+const AVG: &[u8] = b"kernel: avg\nburst width: 8\nunroll factor: 1\ninput uint8: a(*)\n\
+output uint8: o(0) = (a(-1) + a(0) + a(1)) / 3\n";
 
 // The canonical text of `AVG`.
 const PRINTED: &[u8] =

@@ -1,6 +1,6 @@
 //! Programs that are refused, in `check` and in `plain` alike.
 
-use crate::jobs::{refused, run};
+use super::jobs::{refused, run};
 use soda_parse::{LimitKind, Need, Refusal};
 use sodac_cli::Status;
 use std::alloc::Global;

@@ -1,0 +1,4 @@
+mod jobs;
+mod narrow;
+mod parts;
+mod refusals;
