@@ -1,5 +1,5 @@
 -- A text is accepted as one program, or refused for one cause.
-use Rattle.std.proofs.Common.{◌≡◌, ◌⊎◌, inl, inr, ℕ, suc, ◌<◌, ◌≤◌, List, ◌++◌, length, take, drop, Option, Some, None, refl, sym, ap, ◌∙◌, subst, arith}
+use Rattle.std.proofs.Common.{◌≡◌, inl, inr, ℕ, suc, ◌<◌, ◌≤◌, List, ◌++◌, length, take, drop, Some, None, refl, sym, ap, ◌∙◌, arith}
 use Rattle.std.proofs.lemmas.List.{take-append-drop}
 use Rattle.std.proofs.lemmas.Option.{slice_get_within}
 use Rattle.std.specs.Prelude.{slice_get, Result, Ok, Err, IfOk}
@@ -17,7 +17,7 @@ use Rattle.soda_parse.specs.declared.refusal.Refusal.{Refusal}
 use Rattle.soda_parse.specs.declared.refusal.Refusal.TheVariants.{Syntax, NotAscii}
 use Rattle.soda_syntax.proofs.CallerLemmas.{statements_are_one}
 use Rattle.soda_formula.specs.Statements.{PlainStatement}
-use Rattle.soda_syntax.specs.SyntaxError.{BeginsText, IsGoodStart, IsSyntax, IsSyntaxError, IsWrongAt, EndsTooEarly}
+use Rattle.soda_syntax.specs.SyntaxError.{IsGoodStart, IsSyntax, IsSyntaxError, IsWrongAt}
 use Rattle.soda_words.specs.Tokens.{not_ascii, tokens_of}
 use Rattle.soda_words.specs.declared.token.Placed.{Placed}
 
