@@ -1,10 +1,9 @@
 -- What all formulas of an accepted text name, and which tensors are placed at once.
-use Rattle.std.proofs.Common.{◌≡◌, ℕ, zero, suc, ◌+◌, ◌<◌, ◌≤◌, ◌==◌, ◌&&◌, Bool, true, false, not, List, [], ◌∷◌, ◌++◌, length, map, Some, None, Option, refl, sym, ap, ◌∙◌, arith}
+use Rattle.std.proofs.Common.{◌≡◌, ℕ, zero, suc, ◌<◌, ◌≤◌, ◌==◌, Bool, true, false, not, List, [], ◌∷◌, ◌++◌, length, map, Some, None, Option, refl, sym, ap, ◌∙◌, arith}
 use Rattle.std.specs.Prelude.{find, flat_map, nat_le, slice_get}
 use Rattle.std.specs.List.{list_all}
 use Rattle.std.proofs.lemmas.Bool.Decides.{nat_tests}
 use Rattle.std.proofs.lemmas.List.{length-map}
-use Rattle.std.proofs.lemmas.List.Folds.{list_all-append}
 use Rattle.soda_checks.specs.Conditions.{is_wrong_site}
 use Rattle.soda_checks.specs.Outline.{outline_in, outline_of, uses_in}
 use Rattle.soda_checks.specs.declared.outline.Outline.{Outline}
@@ -12,7 +11,7 @@ use Rattle.soda_checks.specs.declared.outline.Site.{Site}
 use Rattle.soda_checks.specs.declared.outline.Site.TheVariants.{Size as SiteSize, Left}
 use Rattle.soda_ir.specs.Counts.{can_be_placed, has_place, tensor_is}
 use Rattle.soda_ir.specs.Formula.{by_formula, every}
-use Rattle.soda_ir.specs.Program.{PlainParam, PlainProgram, PlainTensor}
+use Rattle.soda_ir.specs.Program.{PlainProgram, PlainTensor}
 use Rattle.soda_ir.specs.Valid.{has_good_uses, is_good_param}
 use Rattle.soda_parse.specs.Meaning.{input_of, param_of, tensors_in}
 use Rattle.soda_parse.proofs.Cells.{AllFine}

@@ -1,5 +1,5 @@
 -- What the statements of a program say is the program again: the parts of their outline.
-use Rattle.std.proofs.Common.{◌≡◌, ℕ, suc, true, false, List, [], ◌∷◌, ◌++◌, length, map, Some, None, refl, sym, ap, ◌∙◌}
+use Rattle.std.proofs.Common.{◌≡◌, ℕ, suc, true, false, List, [], ◌∷◌, ◌++◌, map, Some, None, refl, sym, ap, ◌∙◌}
 use Rattle.std.specs.Prelude.{flat_map, position}
 use Rattle.std.specs.List.{list_any}
 use Rattle.soda_words.specs.IntType.{IntType}

@@ -1,25 +1,19 @@
 -- The order of an accepted program's tensors, its ends, and what can be placed.
-use Rattle.std.proofs.Common.{◌≡◌, ◌≢◌, ℕ, zero, suc, ◌+◌, ◌<◌, ◌≤◌, ◌==◌, ◌&&◌, ◌||◌, Bool, true, false, not, List, [], ◌∷◌, ◌++◌, length, map, Some, None, Option, refl, sym, ap, ◌∙◌, arith, cond, get_or}
-use Rattle.std.specs.Prelude.{find, flat_map, nat_le, nat_lt, slice_get}
+use Rattle.std.proofs.Common.{◌≡◌, ◌≢◌, ℕ, suc, ◌+◌, ◌<◌, ◌≤◌, ◌==◌, ◌&&◌, Bool, true, false, not, List, [], ◌∷◌, ◌++◌, length, map, Some, None, Option, refl, sym, ap, ◌∙◌, arith, cond}
+use Rattle.std.specs.Prelude.{flat_map, nat_le}
 use Rattle.std.specs.List.{list_all, list_any}
 use Rattle.std.proofs.lemmas.Bool.Decides.{nat_tests}
-use Rattle.std.proofs.lemmas.Bool.{eq-eqb, eqb-true, not-true}
-use Rattle.soda_checks.specs.Conditions.{has_output, is_wrong_site}
-use Rattle.soda_checks.specs.Outline.{outline_in, outline_of, uses_in}
+use Rattle.std.proofs.lemmas.Bool.{eqb-true, not-true}
+use Rattle.soda_checks.specs.Conditions.{has_output}
+use Rattle.soda_checks.specs.Outline.{outline_in, outline_of}
 use Rattle.soda_checks.specs.declared.outline.Defined.{Defined}
 use Rattle.soda_checks.specs.declared.outline.Outline.{Outline}
-use Rattle.soda_checks.specs.declared.outline.Site.TheVariants.{Left}
 use Rattle.soda_ir.specs.Counts.{can_be_placed, is_input_role, is_output_role}
 use Rattle.soda_ir.specs.Program.{PlainProgram, PlainTensor, input_types, preserves}
-use Rattle.soda_ir.specs.Uses.{each_use, formula_is, is_good_cell, is_good_place}
-use Rattle.soda_ir.specs.Valid.{FitsItself, fills_burst, has_formula_if_no_input, has_good_uses, has_inputs_first, output_types}
+use Rattle.soda_ir.specs.Valid.{FitsItself, fills_burst, has_formula_if_no_input, has_inputs_first, output_types}
 use Rattle.soda_parse.specs.ProgramConditions.{bad_burst, circular_from, has_good_burst, iterate_mismatch, outputs_fit, preserve_mismatch}
 use Rattle.soda_parse.specs.Meaning.{input_of, tensors_in}
-use Rattle.soda_parse.proofs.Cells.{AllFine}
-use Rattle.soda_parse.proofs.Places.{HasParams, good_uses}
 use Rattle.soda_parse.proofs.SameTypes.{both_of, equal_lists}
-use Rattle.soda_parse.proofs.Tiling.{false_not, none_here}
-use Rattle.soda_parse.proofs.Uses.{Fits, none_in_both}
 use Rattle.soda_formula.specs.Statements.{PlainStatement, kernel, burst_width, unroll_factor, iterate, border, cluster, param, input, local, output}
 use Rattle.soda_formula.specs.declared.statement.InputLine.{InputLine}
 

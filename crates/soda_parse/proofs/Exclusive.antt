@@ -1,20 +1,23 @@
 -- A text is accepted as one program, or refused for one cause.
-use Rattle.std.proofs.Common.{◌≡◌, ◌⊎◌, inl, inr, ℕ, suc, ◌<◌, ◌≤◌, List, ◌++◌, length, take, drop, Option, Some, None, refl, sym, ap, ◌∙◌, subst, arith}
+use Rattle.std.proofs.Common.{◌≡◌, inl, inr, ℕ, suc, ◌<◌, ◌≤◌, List, ◌++◌, length, take, drop, Some, None, refl, sym, ap, ◌∙◌, arith}
 use Rattle.std.proofs.lemmas.List.{take-append-drop}
 use Rattle.std.proofs.lemmas.Option.{slice_get_within}
 use Rattle.std.specs.Prelude.{slice_get, Result, Ok, Err, IfOk}
 use Rattle.soda_checks.specs.Outline.{outline_of}
 use Rattle.soda_ir.specs.Program.{PlainProgram}
-use Rattle.soda_parse.specs.Fails.{IfRefused}
+use Rattle.soda_parse.specs.Fails.{IfRefused, unread}
 use Rattle.soda_parse.specs.declared.reading.ParseFail.{ParseFail}
 use Rattle.soda_parse.specs.declared.reading.ParseFail.TheVariants.{Refused, Memory}
+use Rattle.soda_syntax.specs.Fails.{IfRefused as IfUnread}
+use Rattle.soda_syntax.specs.declared.reading.SyntaxFail.{SyntaxFail}
+use Rattle.soda_syntax.specs.declared.reading.SyntaxFail.TheVariants.{Refused as SyntaxRefused, Memory as SyntaxMemory}
 use Rattle.soda_parse.specs.Meaning.{program_by}
 use Rattle.soda_parse.specs.Text.{Accepts, Refuses, too_long, no_ascii, no_syntax, not_valid, statement_refusal}
 use Rattle.soda_parse.specs.declared.refusal.Refusal.{Refusal}
 use Rattle.soda_parse.specs.declared.refusal.Refusal.TheVariants.{Syntax, NotAscii}
 use Rattle.soda_syntax.proofs.CallerLemmas.{statements_are_one}
 use Rattle.soda_formula.specs.Statements.{PlainStatement}
-use Rattle.soda_syntax.specs.SyntaxError.{BeginsText, IsGoodStart, IsSyntax, IsSyntaxError, IsWrongAt, EndsTooEarly}
+use Rattle.soda_syntax.specs.SyntaxError.{IsGoodStart, IsSyntax, IsSyntaxError, IsWrongAt}
 use Rattle.soda_words.specs.Tokens.{not_ascii, tokens_of}
 use Rattle.soda_words.specs.declared.token.Placed.{Placed}
 
@@ -108,3 +111,9 @@ pub none_accepted : {A : Type 0} (most : ℕ) (bytes : List ℕ) (r : Result A P
 none_accepted most bytes (Ok p) a = tt
 none_accepted most bytes (Err (Refused c)) a = λ q b. never_both most bytes q c b a
 none_accepted most bytes (Err Memory) a = tt
+
+-- a text whose statements were not read is refused for its syntax
+pub syntax_refused : (A B : Type 0) (most : ℕ) (bytes : List ℕ) (fail : SyntaxFail) → length bytes ≤ most → not_ascii bytes ≡ None →
+    IfUnread {A = B} (Err fail) (IsSyntaxError bytes) → IfRefused {A = A} (Err (unread fail)) (Refuses most bytes)
+syntax_refused A B most bytes (SyntaxRefused line) short ascii e = no_syntax short ascii e
+syntax_refused A B most bytes SyntaxMemory short ascii e = tt

@@ -3,7 +3,6 @@ use Rattle.std.proofs.Common.{◌≡◌, ◌≢◌, ℕ, suc, ◌+◌, ◌*◌, 
 use Rattle.std.specs.Prelude.{find, option_map, slice_get, unwrap_or}
 use Rattle.std.specs.List.{list_all}
 use Rattle.std.proofs.lemmas.Bool.Decides.{nat_tests}
-use Rattle.std.proofs.lemmas.List.Sums.{sum_by-cons}
 use Rattle.std.proofs.lemmas.Nat.{mul-le}
 use Rattle.soda_words.specs.IntType.{IntType}
 use Rattle.soda_checks.specs.Conditions.{has_wrong_tile, is_same_tile, is_tile, wrong_tile}
@@ -18,7 +17,7 @@ use Rattle.soda_parse.specs.ProgramConditions.{are_same_types, bad_burst, circul
 use Rattle.soda_parse.specs.Meaning.{tile_items}
 use Rattle.soda_parse.specs.Text.{count_refusal, late_refusal, names_refusal, refusal_by, shape_refusal, size_refusal, statement_refusal, use_refusal}
 use Rattle.soda_print.specs.Sized.{IsSizedProgram}
-use Rattle.soda_print.proofs.CallerLemmas.{count_cons, positive, some}
+use Rattle.soda_print.proofs.CallerLemmas.{count_cons, positive}
 use Rattle.soda_formula.specs.declared.statement.Extent.{Extent}
 use Rattle.soda_formula.specs.declared.statement.Extent.TheVariants.{Fixed, Open}
 use Rattle.soda_formula.specs.declared.statement.InputLine.{InputLine}

@@ -1,7 +1,6 @@
 -- The names of an accepted text are free and pairwise different.
-use Rattle.std.proofs.Common.{◌≡◌, ℕ, ◌==◌, ◌||◌, Bool, true, false, List, [], ◌∷◌, ◌++◌, length, map, Some, None, Option, refl, sym, ap, ◌∙◌, cond, append_assoc}
+use Rattle.std.proofs.Common.{◌≡◌, ℕ, ◌||◌, Bool, true, false, List, [], ◌∷◌, ◌++◌, map, Some, None, refl, sym, ap, ◌∙◌, cond, append_assoc}
 use Rattle.std.specs.List.{list_all, list_any}
-use Rattle.std.proofs.lemmas.Bool.{eqb-true, eq-eqb}
 use Rattle.soda_checks.specs.Conditions.{taken_behind}
 use Rattle.soda_checks.specs.Outline.{is_one_of, is_same, outline_in, outline_of}
 use Rattle.soda_checks.specs.declared.outline.Outline.{Outline}
@@ -11,8 +10,7 @@ use Rattle.soda_parse.proofs.SameTypes.{both_of}
 use Rattle.soda_formula.specs.Statements.{PlainStatement, kernel, burst_width, unroll_factor, iterate, border, cluster, param, input, local, output}
 use Rattle.soda_formula.specs.declared.statement.InputLine.{InputLine}
 use Rattle.soda_formula.specs.declared.statement.ParamLine.{ParamLine}
-use Rattle.std.proofs.Math.Dec.{eqb-suc-zero}
-use Rattle.soda_words.specs.Names.{behind, is_free_name, is_name, is_reserved, is_word}
+use Rattle.soda_words.specs.Names.{is_free_name, is_name, is_reserved, is_word}
 use Rattle.soda_words.specs.declared.token.Word.{Word}
 use Rattle.soda_parse.proofs.Truths.{neither_of}
 use Rattle.soda_words.proofs.CallerLemmas.{is_word-turned}

@@ -1,13 +1,12 @@
 -- The conditions on a text one by one, where none of them fails.
-use Rattle.std.proofs.Common.{◌≡◌, ℕ, Bool, true, false, List, length, Option, Some, None, refl}
-use Rattle.std.specs.Prelude.{option_map}
+use Rattle.std.proofs.Common.{◌≡◌, Bool, true, false, length, Option, Some, None, refl}
 use Rattle.soda_checks.specs.Conditions.{bad_width, float_type, missing, name_twice, param_use, twice, unknown_name, wrong_dims, wrong_tile}
 use Rattle.soda_checks.specs.declared.outline.Outline.{Outline}
 use Rattle.soda_ir.specs.Counts.{live_count, read_count}
 use Rattle.soda_ir.specs.Program.{PlainProgram}
 use Rattle.soda_parse.specs.ProgramConditions.{bad_burst, circular, iterate_mismatch, offset_past, params_past, preserve_mismatch, tile_past, unless_within}
 use Rattle.soda_parse.specs.Meaning.{tile_items}
-use Rattle.soda_parse.specs.Text.{count_refusal, late_refusal, names_refusal, refusal_by, refusal_if, shape_refusal, size_refusal, use_refusal}
+use Rattle.soda_parse.specs.Text.{count_refusal, names_refusal, refusal_if, shape_refusal, size_refusal, use_refusal}
 use Rattle.soda_parse.specs.declared.refusal.Refusal.{Refusal}
 use Rattle.soda_words.specs.Tokens.{or_else}
 use Rattle.soda_parse.proofs.Tiling.{unmapped}

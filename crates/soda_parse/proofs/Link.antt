@@ -1,5 +1,5 @@
 -- What the conditions on a text say of the program that it stands for.
-use Rattle.std.proofs.Common.{subst, ◌≡◌, Bool, true, false, refl, ℕ, ◌+◌, ◌<◌, ◌≤◌, ◌^◌, List, [], ◌∷◌, map, length, Option, None, sym, ap, ◌∙◌, arith}
+use Rattle.std.proofs.Common.{subst, ◌≡◌, true, false, refl, ℕ, ◌+◌, ◌<◌, ◌^◌, List, [], ◌∷◌, map, length, Option, None, sym, ap, ◌∙◌, arith}
 use Rattle.std.proofs.lemmas.List.{length-map}
 use Rattle.std.specs.Prelude.{find, flat_map, nat_lt}
 use Rattle.std.specs.List.{list_all}
@@ -15,11 +15,11 @@ use Rattle.soda_ir.specs.declared.program.Parts.{Parts}
 use Rattle.soda_ir.specs.Valid.{IsValid, is_small}
 use Rattle.soda_parse.proofs.Counting.{few_of_all, tensor_total}
 use Rattle.soda_parse.proofs.Tiling.{tiled, unmapped}
-use Rattle.soda_parse.proofs.Uses.{Fits, FineCells, good_cells}
+use Rattle.soda_parse.proofs.Uses.{Fits}
 use Rattle.soda_parse.proofs.Sizes.{within, product_small, has_all}
 use Rattle.soda_parse.proofs.Cells.{all_fine, cells_fine}
-use Rattle.soda_parse.proofs.Named.{AreNamed, declared_named, kernel_named, names_named, params_good}
-use Rattle.soda_parse.proofs.Places.{HasParams, good_uses, values_small}
+use Rattle.soda_parse.proofs.Named.{declared_named, kernel_named, names_named, params_good}
+use Rattle.soda_parse.proofs.Places.{values_small}
 use Rattle.soda_parse.proofs.AllUses.{all_uses, input_placed, two_sizes}
 use Rattle.soda_parse.proofs.SmallTensors.{small_tensors}
 use Rattle.soda_parse.proofs.FreeNames.{free_names}

@@ -1,6 +1,6 @@
 -- The names of an accepted text are names, and its params have at most two sizes.
-use Rattle.std.proofs.Common.{◌≡◌, ℕ, zero, suc, ◌+◌, ◌<◌, ◌≤◌, ◌&&◌, Bool, true, false, not, List, [], ◌∷◌, ◌++◌, length, map, Some, None, Option, refl, sym, ap, ◌∙◌, arith, cond, subst, ◌==◌}
-use Rattle.std.specs.Prelude.{find, flat_map, nat_le, unwrap_or}
+use Rattle.std.proofs.Common.{◌≡◌, ℕ, zero, suc, ◌≤◌, Bool, true, false, not, List, [], ◌∷◌, ◌++◌, length, map, Some, None, Option, refl, arith, cond, subst, ◌==◌}
+use Rattle.std.specs.Prelude.{find, nat_le, unwrap_or}
 use Rattle.std.specs.List.{list_all, list_any}
 use Rattle.std.proofs.lemmas.Bool.Decides.{nat_tests}
 use Rattle.std.proofs.lemmas.List.{length-map}
@@ -16,11 +16,10 @@ use Rattle.soda_parse.proofs.Tiling.{none_here}
 use Rattle.soda_parse.proofs.Uses.{none_in_both}
 use Rattle.soda_syntax.specs.Grammar.{AreStatements, IsStatement, a_kernel, a_burst_width, an_unroll_factor, an_iterate, ignored_border, preserved_border, a_cluster, a_param, an_input, a_local, an_output, no_statement, statement_before}
 use Rattle.soda_formula.specs.Statements.{PlainStatement, kernel, burst_width, unroll_factor, iterate, border, cluster, param, input, local, output}
-use Rattle.soda_formula.specs.declared.statement.ParamLine.{ParamLine}
 use Rattle.soda_formula.specs.declared.statement.Size.{Size}
 use Rattle.soda_words.specs.Names.{is_name, is_word_byte}
 use Rattle.soda_words.specs.Symbols.{double_of}
-use Rattle.soda_words.specs.Tokens.{Front, double_front, first_line, first_word, front_of, is_number, is_white, line_behind, value_behind, placed, sign_or_bad, single_front, symbol_front, tokens_behind, tokens_of, word_token}
+use Rattle.soda_words.specs.Tokens.{Front, double_front, first_line, first_word, front_of, is_number, is_white, line_behind, value_behind, placed, sign_or_bad, symbol_front, tokens_behind, tokens_of, word_token}
 use Rattle.soda_words.specs.declared.symbol.Symbol.{Symbol}
 use Rattle.soda_words.specs.declared.token.Placed.{Placed}
 use Rattle.soda_words.specs.declared.token.Token.{Token}

@@ -1,14 +1,13 @@
 -- An offset with the left side subtracted, component by component.
-use Rattle.std.proofs.Common.{◌≡◌, ℕ, zero, suc, ◌+◌, ◌<◌, ◌≤◌, ◌&&◌, true, false, Bool, List, [], ◌∷◌, ◌++◌, length, drop, ℤ, pos, refl, sym, ap, ◌∙◌, arith, append_assoc, append-nil, add-one, cond, get_or}
+use Rattle.std.proofs.Common.{◌≡◌, ℕ, zero, suc, ◌+◌, ◌<◌, ◌≤◌, true, false, List, [], ◌∷◌, ◌++◌, length, drop, ℤ, pos, refl, sym, ap, ◌∙◌, arith, append_assoc, add-one, get_or}
 use Rattle.std.proofs.lemmas.List.{length-append}
 use Rattle.std.proofs.lemmas.List.Folds.{list_all-append}
 use Rattle.std.proofs.lemmas.Int.{ints}
 use Rattle.std.proofs.lemmas.Bool.Decides.{nat_tests}
 use Rattle.std.specs.Prelude.{◌-ℤ◌, slice_index_or, nat_le, nat_lt, map, unsigned_abs}
-use Rattle.std.specs.List.{list_all}
 use Rattle.soda_ir.specs.Uses.{is_near}
 use Rattle.soda_parse.specs.ProgramConditions.{first_past}
-use Rattle.soda_parse.specs.Meaning.{is_offset, offset_or_none, shifted}
+use Rattle.soda_parse.specs.Meaning.{offset_or_none, shifted}
 use Rattle.std.specs.Cmp.Derive.{both_true}
 
 -- the components before this one are made, all of them near

@@ -1,17 +1,15 @@
 -- The values that the formulas of a text name, where the conditions on them hold.
-use Rattle.std.proofs.Common.{◌≡◌, ℕ, zero, suc, ◌+◌, ◌*◌, ◌<◌, ◌≤◌, ◌==◌, ◌&&◌, ◌||◌, Bool, true, false, not, List, [], ◌∷◌, ◌++◌, length, map, Some, None, Option, refl, sym, ap, ◌∙◌, arith, cond, ℤ, mul-one, one-mul, mul_assoc, subst}
-use Rattle.std.specs.Prelude.{find, flat_map, option_map, position, slice_get, nat_lt, nat_le, sum_by}
-use Rattle.std.specs.List.{list_all, list_any, position_or_len}
+use Rattle.std.proofs.Common.{◌≡◌, ℕ, ◌+◌, ◌*◌, ◌<◌, ◌≤◌, Bool, true, false, not, List, [], ◌∷◌, ◌++◌, length, map, Some, None, Option, refl, sym, ap, ◌∙◌, arith, ℤ, mul-one, one-mul, mul_assoc, subst}
+use Rattle.std.specs.Prelude.{find, option_map, position, slice_get, nat_lt}
+use Rattle.std.specs.List.{position_or_len}
 use Rattle.std.proofs.lemmas.Bool.Decides.{nat_tests}
-use Rattle.std.proofs.lemmas.List.Folds.{find_at, list_all-append}
-use Rattle.std.proofs.lemmas.List.Sums.{sum_by-cons}
+use Rattle.std.proofs.lemmas.List.Folds.{find_at}
 use Rattle.std.proofs.lemmas.Nat.{mul-add-lt}
 use Rattle.std.proofs.lemmas.Option.{slice_get-map, slice_get_within}
-use Rattle.soda_checks.specs.Conditions.{are_below, is_wrong_site, is_wrong_value}
+use Rattle.soda_checks.specs.Conditions.{are_below, is_wrong_site}
 use Rattle.soda_checks.specs.Outline.{is_same, uses_in}
 use Rattle.soda_checks.specs.declared.outline.Outline.{Outline}
-use Rattle.soda_checks.specs.declared.outline.Site.{Site}
-use Rattle.soda_checks.specs.declared.outline.Site.TheVariants.{Cell, Value}
+use Rattle.soda_checks.specs.declared.outline.Site.TheVariants.{Value}
 use Rattle.soda_formula.specs.Terms.{Term, literal, cell, value, unary, binary, choice, cast}
 use Rattle.soda_ir.specs.Formula.{every}
 use Rattle.soda_ir.specs.Formula.{Formula}

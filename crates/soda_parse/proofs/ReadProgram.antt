@@ -2,7 +2,6 @@
 use Rattle.std.proofs.Common.{◌≡◌, ℕ, zero, suc, ◌<◌, ◌≤◌, Bool, true, false, nat_le, List, [], ◌∷◌, ◌++◌, length, map, Some, None, Option, refl, sym, ap, ◌∙◌, arith, subst}
 use Rattle.std.specs.Prelude.{flat_map, slice_get, unwrap_or}
 use Rattle.std.specs.List.{list_all}
-use Rattle.std.proofs.lemmas.Bool.Decides.{nat_tests}
 use Rattle.soda_checks.specs.Conditions.{first_tile}
 use Rattle.soda_checks.specs.Outline.{outline_in, outline_of}
 use Rattle.soda_checks.specs.declared.outline.Outline.{Outline}

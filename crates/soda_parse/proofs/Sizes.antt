@@ -1,6 +1,6 @@
 -- What the limits say where none is passed.
-use Rattle.std.proofs.Common.{◌≡◌, ℕ, suc, ◌+◌, ◌*◌, ◌<◌, ◌≤◌, ◌&&◌, Bool, true, false, not, List, [], ◌∷◌, ◌++◌, length, map, Some, None, Option, refl, sym, ap, ◌∙◌, arith, mul-one, subst, cond, mul_assoc, ◌==◌}
-use Rattle.std.specs.Prelude.{find, nat_le, nat_lt, sum_by}
+use Rattle.std.proofs.Common.{◌≡◌, ℕ, ◌*◌, ◌<◌, ◌≤◌, ◌&&◌, Bool, true, false, not, List, [], ◌∷◌, length, Some, None, refl, arith, mul-one, subst, cond, mul_assoc, ◌==◌}
+use Rattle.std.specs.Prelude.{nat_le, nat_lt}
 use Rattle.std.proofs.lemmas.Bool.Decides.{nat_tests}
 use Rattle.std.specs.List.{list_any}
 use Rattle.soda_checks.specs.Conditions.{has_output, is_kind, missing, need_unless}
@@ -9,9 +9,7 @@ use Rattle.soda_checks.specs.declared.need.Need.TheVariants.{Kernel as NeedKerne
 use Rattle.soda_checks.specs.declared.outline.SettingKind.TheVariants.{Kernel, BurstWidth, UnrollFactor}
 use Rattle.soda_checks.specs.declared.outline.Outline.{Outline}
 use Rattle.soda_ir.specs.Points.{size}
-use Rattle.soda_ir.specs.Program.{PlainParam}
-use Rattle.soda_ir.specs.Valid.{value_count}
-use Rattle.soda_parse.specs.ProgramConditions.{first_past, param_products, partial_products, unless_within, values_past}
+use Rattle.soda_parse.specs.ProgramConditions.{first_past, partial_products, unless_within}
 use Rattle.soda_parse.proofs.Kept.{none_first, none_second}
 use Rattle.soda_parse.proofs.SameTypes.{both_of}
 use Rattle.soda_parse.proofs.Tiling.{none_here}

@@ -1,48 +1,31 @@
 -- The tensors of an accepted text are small as the canonical text writes them.
-use Rattle.std.proofs.Common.{◌≡◌, inl, inr, ℕ, suc, ◌+◌, ◌-◌, ◌*◌, ◌<◌, ◌≤◌, ◌==◌, ◌&&◌, Bool, true, false, not, List, [], ◌∷◌, ◌++◌, length, map, take, drop, Some, None, Option, refl, sym, ap, ◌∙◌, subst, arith, cond, append_assoc, ℤ}
-use Rattle.std.specs.Prelude.{codes, find, flat_map, max, nat_le, nat_lt, option_map, position, slice_get, if◌then◌else◌}
+use Rattle.std.proofs.Common.{◌≡◌, inl, inr, ℕ, ◌<◌, ◌≤◌, ◌&&◌, Bool, true, List, [], ◌∷◌, ◌++◌, length, map, take, drop, None, refl, sym, ap, ◌∙◌, subst, arith, append_assoc, ℤ}
+use Rattle.std.specs.Prelude.{find, flat_map, nat_le}
 use Rattle.std.specs.List.{list_all}
 use Rattle.std.proofs.Math.Seq.{take-length, take-append_seam}
-use Rattle.std.proofs.lemmas.Bool.Decides.{nat_tests}
-use Rattle.std.proofs.lemmas.Grind.{common_steps}
 use Rattle.std.proofs.lemmas.List.{take-append-drop}
-use Rattle.std.proofs.lemmas.List.Folds.{find_at, list_all-append}
-use Rattle.std.proofs.lemmas.Option.{slice_get-map}
-use Rattle.soda_words.specs.OperatorTable.{binary_row, unary_row}
-use Rattle.soda_words.specs.declared.operators.UnOp.{UnOp}
-use Rattle.soda_words.specs.declared.operators.BinOp.{BinOp}
-use Rattle.soda_words.specs.declared.operators.BinOp.TheVariants.{Min, Max}
-use Rattle.soda_words.specs.Names.{is_cast_word, is_reserved}
+use Rattle.std.proofs.lemmas.List.Folds.{list_all-append}
 use Rattle.soda_words.specs.Tokens.{tokens_of}
-use Rattle.soda_words.specs.declared.symbol.Symbol.{Symbol}
-use Rattle.soda_words.specs.declared.symbol.Symbol.TheVariants.{BarBar, AmpAmp, EqualEqual, BangEqual, LessEqual, GreaterEqual, Bar, Caret, Amp, Less, Greater, PlusSign, MinusSign, Star, Slash, Percent, Tilde, Bang, OpenRound, CloseRound, Comma}
 use Rattle.soda_words.specs.declared.token.Placed.{Placed}
-use Rattle.soda_words.specs.declared.token.Token.TheVariants.{Sign}
-use Rattle.soda_words.specs.declared.token.Word.{Word}
-use Rattle.soda_formula.specs.Terms.{Term, value}
-use Rattle.soda_formula.specs.Grammar.{symbol_on, name_on, number_on, word_on, AreParted, last_item, item_before, IsComponent, ahead, back, AreOffsets, AreIndexes, no_index, index_before, Infix, infix_of, prefix_of, call_text, IsTerm, tighter, joined, prefixed, a_literal, bracketed, a_cast, an_abs, a_call, a_choice, a_cell, a_value, IsFormula}
-use Rattle.soda_formula.specs.Reading.{BeginsFormula, IsLarge, Place, outside, behind_name, in_offsets, counted_tokens_from, open_behind, open_brackets_from, place_behind}
-use Rattle.soda_checks.specs.Conditions.{are_below, is_wrong_site, is_wrong_value}
-use Rattle.soda_checks.specs.Outline.{is_same, outline_in, outline_of, uses_in}
+use Rattle.soda_formula.specs.Terms.{Term}
+use Rattle.soda_formula.specs.Grammar.{IsFormula}
+use Rattle.soda_formula.specs.Reading.{BeginsFormula, IsLarge, outside, counted_tokens_from, open_brackets_from}
+use Rattle.soda_checks.specs.Conditions.{is_wrong_site}
+use Rattle.soda_checks.specs.Outline.{outline_in, outline_of, uses_in}
 use Rattle.soda_checks.specs.declared.outline.Outline.{Outline}
-use Rattle.soda_checks.specs.declared.outline.Site.TheVariants.{Left, Value}
-use Rattle.soda_ir.specs.Formula.{Formula, unary as unary_formula, binary as binary_formula}
-use Rattle.soda_ir.specs.Program.{PlainProgram, PlainParam}
+use Rattle.soda_checks.specs.declared.outline.Site.TheVariants.{Left}
+use Rattle.soda_ir.specs.Program.{PlainProgram}
 use Rattle.soda_ir.specs.Valid.{is_small}
-use Rattle.soda_ir.specs.Written.{index_count, most_open, pairs_round, token_count, least_bare, operator_tokens, call_pairs}
-use Rattle.soda_parse.specs.Meaning.{cell_formula, formula_of, is_offset, named_value, offset_or_none, param_of, shifted, tensor_number, tensors_in, value_formula}
-use Rattle.soda_parse.proofs.SameTypes.{both_of}
-use Rattle.soda_parse.proofs.Tiling.{none_here, false_not}
+use Rattle.soda_ir.specs.Written.{most_open, token_count}
+use Rattle.soda_parse.specs.Meaning.{formula_of, param_of, tensors_in}
+use Rattle.soda_parse.proofs.Tiling.{none_here}
 use Rattle.soda_syntax.specs.Grammar.{AreStatements, IsStatement, a_kernel, a_burst_width, an_unroll_factor, an_iterate, ignored_border, preserved_border, a_cluster, a_param, an_input, a_local, an_output, no_statement, statement_before}
 use Rattle.soda_formula.specs.Statements.{PlainStatement}
 use Rattle.soda_syntax.specs.SyntaxError.{EndsInFormula, IsHead, IsSyntax, IsTooLarge}
-use Rattle.soda_formula.specs.declared.statement.ParamLine.{ParamLine}
-use Rattle.soda_formula.specs.declared.statement.Size.{Size}
 use Rattle.soda_parse.proofs.Truths.{le_true}
 use Rattle.std.specs.Cmp.Derive.{both_true}
-use Rattle.soda_parse.proofs.Offsets.{shifted_length}
 use Rattle.soda_parse.proofs.Uses.{none_in_both}
-use Rattle.soda_parse.proofs.TokenCounts.{Closed, peak, peak_least, IsPassing, passes, passing_closed, reserved_counts, free_counts, one_if_some, comma_passes, cast_reserved}
+use Rattle.soda_parse.proofs.TokenCounts.{peak}
 use Rattle.soda_parse.proofs.WrittenTakes.{peak_most}
 use Rattle.soda_parse.proofs.FormulasTake.{takes}
 

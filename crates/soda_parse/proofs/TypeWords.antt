@@ -1,8 +1,7 @@
 -- The word of a type stands for that type.
-use Rattle.std.proofs.Common.{◌≡◌, ℕ, ◌<◌, ◌≤◌, ◌^◌, Bool, true, false, nat_le, List, ◌++◌, Some, Option, refl, ap, arith, IsTrue, codes}
+use Rattle.std.proofs.Common.{◌≡◌, ℕ, ◌<◌, ◌≤◌, ◌^◌, Bool, true, false, List, ◌++◌, Some, Option, refl, ap, arith, IsTrue, codes}
 use Rattle.std.specs.Prelude.{option_map, unwrap_or, if◌then◌else◌}
 use Rattle.std.specs.Fmt.{decimal}
-use Rattle.std.proofs.lemmas.Bool.Decides.{nat_tests}
 use Rattle.std.proofs.lemmas.Fmt.{digits_value-decimal}
 use Rattle.soda_words.specs.IntType.{IntType, IsType, int32}
 use Rattle.soda_checks.specs.Types.{is_float, type_behind, type_of, width_of}

@@ -1,26 +1,23 @@
 -- What the formulas of a text name, where the conditions on cells and values hold.
-use Rattle.std.proofs.Common.{◌≡◌, ℕ, zero, suc, ◌+◌, ◌*◌, ◌<◌, ◌≤◌, ◌==◌, ◌&&◌, ◌||◌, Bool, true, false, not, List, [], ◌∷◌, ◌++◌, length, map, Some, None, Option, refl, sym, ap, ◌∙◌, arith, cond, append_assoc, ℤ, get_or}
-use Rattle.std.specs.Prelude.{find, flat_map, option_map, position, slice_get, nat_lt, nat_le, unsigned_abs}
-use Rattle.std.specs.List.{list_all, list_any}
+use Rattle.std.proofs.Common.{◌≡◌, ℕ, zero, suc, ◌+◌, ◌<◌, ◌≤◌, ◌==◌, Bool, true, false, not, List, [], ◌∷◌, ◌++◌, length, map, Some, None, Option, refl, sym, ap, ◌∙◌, arith, append_assoc, ℤ, get_or}
+use Rattle.std.specs.Prelude.{find, option_map, position, nat_lt, nat_le, unsigned_abs}
+use Rattle.std.specs.List.{list_any}
 use Rattle.std.proofs.lemmas.Bool.{eqb-true, eq-eqb}
 use Rattle.std.proofs.lemmas.Bool.Decides.{nat_tests}
-use Rattle.std.proofs.lemmas.List.Folds.{find-append}
 use Rattle.std.proofs.lemmas.List.Quantifiers.{position-Some}
-use Rattle.soda_checks.specs.Conditions.{has_wrong_dims, is_tensor, is_wrong_site}
+use Rattle.soda_checks.specs.Conditions.{has_wrong_dims, is_tensor}
 use Rattle.soda_checks.specs.Outline.{is_same, uses_in}
 use Rattle.soda_checks.specs.declared.outline.Outline.{Outline}
 use Rattle.soda_checks.specs.declared.outline.Site.{Site}
-use Rattle.soda_checks.specs.declared.outline.Site.TheVariants.{Size as SiteSize, Left, Cell, Value}
+use Rattle.soda_checks.specs.declared.outline.Site.TheVariants.{Cell}
 use Rattle.soda_formula.specs.Terms.{Term, literal, cell, value, unary, binary, choice, cast}
 use Rattle.soda_ir.specs.Formula.{every}
-use Rattle.soda_ir.specs.Formula.{Formula}
 use Rattle.soda_ir.specs.Program.{PlainProgram}
-use Rattle.soda_ir.specs.Uses.{each_use, is_good_cell, is_good_place, is_near}
-use Rattle.soda_parse.specs.ProgramConditions.{far_from, first_past, left_behind, site_magnitudes}
-use Rattle.soda_parse.specs.Meaning.{cell_formula, formula_of, is_offset, offset_or_none, shifted, tensor_number, value_formula}
+use Rattle.soda_ir.specs.Uses.{is_good_cell, is_near}
+use Rattle.soda_parse.specs.ProgramConditions.{far_from, first_past, site_magnitudes}
+use Rattle.soda_parse.specs.Meaning.{cell_formula, formula_of, offset_or_none, shifted, tensor_number, value_formula}
 use Rattle.soda_formula.specs.declared.statement.ParamLine.{ParamLine}
 use Rattle.soda_parse.proofs.Kept.{none_first, none_second}
-use Rattle.soda_parse.proofs.SameTypes.{both_of}
 use Rattle.soda_parse.proofs.Tiling.{none_here, false_not}
 use Rattle.soda_words.specs.Tokens.{or_else}
 use Rattle.soda_words.specs.declared.token.Word.{Word}

@@ -1,5 +1,5 @@
 -- The values of params, counted one size at a time.
-use Rattle.std.proofs.Common.{◌≡◌, ℕ, suc, ◌+◌, ◌*◌, ◌<◌, ◌≤◌, List, [], ◌∷◌, length, map, drop, get_or, Some, None, refl, sym, ap, ◌∙◌, arith, mul-one}
+use Rattle.std.proofs.Common.{◌≡◌, ℕ, ◌+◌, ◌*◌, ◌<◌, ◌≤◌, List, [], ◌∷◌, length, map, drop, None, refl, sym, ap, ◌∙◌, arith, mul-one}
 use Rattle.std.proofs.Math.ListN.{drop_of_length-le}
 use Rattle.soda_ir.specs.Points.{size}
 use Rattle.soda_parse.specs.ProgramConditions.{first_past, param_products, partial_products}

@@ -1,33 +1,15 @@
 -- Written tokens have at most so many counted tokens and open brackets.
-use Rattle.std.proofs.Common.{◌≡◌, inl, inr, ℕ, suc, ◌+◌, ◌-◌, ◌*◌, ◌≤◌, ◌==◌, ◌&&◌, Bool, true, false, List, [], ◌∷◌, ◌++◌, length, map, Some, None, Option, refl, sym, ap, ◌∙◌, subst, arith, append_assoc, append-nil, codes, ℤ}
-use Rattle.std.specs.Prelude.{max, nat_le, nat_lt, slice_get, if◌then◌else◌}
+use Rattle.std.proofs.Common.{◌≡◌, ℕ, suc, ◌+◌, ◌-◌, ◌*◌, ◌≤◌, true, false, List, [], ◌∷◌, ◌++◌, length, refl, sym, ap, subst, arith, append_assoc, ℤ}
+use Rattle.std.specs.Prelude.{max}
 use Rattle.std.proofs.lemmas.Bool.Decides.{nat_tests}
-use Rattle.soda_words.specs.declared.operators.UnOp.{UnOp}
-use Rattle.soda_words.specs.declared.operators.UnOp.TheVariants.{Plus, Minus, Flip, Not, Abs}
-use Rattle.soda_words.specs.declared.operators.BinOp.{BinOp}
-use Rattle.soda_words.specs.declared.operators.BinOp.TheVariants.{LogOr, LogAnd, BitOr, BitXor, BitAnd, Eq, Ne, Lt, Le, Gt, Ge, Add, Sub, Mul, Div, Rem, Min, Max}
-use Rattle.soda_formula.specs.Grammar.{symbol_on, name_on, number_on, AreParted, last_item, item_before, IsComponent, ahead, back, AreOffsets, AreIndexes, no_index, index_before}
-use Rattle.soda_formula.specs.Reading.{Place, outside, behind_name, in_offsets, counted_tokens_from, open_behind, open_brackets_from, place_behind}
-use Rattle.soda_ir.specs.Formula.{Formula, number, read, param as value_of, unary, binary, choice, cast}
-use Rattle.soda_ir.specs.Points.{size}
-use Rattle.soda_ir.specs.Program.{PlainParam, PlainProgram}
-use Rattle.soda_ir.specs.Uses.{each_use, is_good_cell, is_good_place}
-use Rattle.soda_ir.specs.Written.{left_pairs, most_open, pairs_round, right_pairs, token_count}
-use Rattle.soda_print.specs.Canonical.{indexes, tensor_name, type_text}
-use Rattle.soda_print.specs.Sized.{IsSized}
-use Rattle.soda_print.proofs.CallerLemmas.{call_tokens, component_tokens, formula_tokens, index_tokens, listed_tokens, pair_tokens, parted_tokens, few_indexes}
-use Rattle.soda_syntax.proofs.CallerLemmas.{IsSmallFormula}
-use Rattle.soda_words.specs.Names.{is_cast_word, is_reserved}
+use Rattle.soda_formula.specs.Grammar.{symbol_on, name_on, AreParted, last_item, item_before, IsComponent, ahead, back, AreOffsets, AreIndexes, no_index, index_before}
+use Rattle.soda_formula.specs.Reading.{outside, behind_name, in_offsets, counted_tokens_from, open_behind}
+use Rattle.soda_words.specs.Names.{is_reserved}
 use Rattle.soda_words.specs.declared.symbol.Symbol.{Symbol}
-use Rattle.soda_words.specs.declared.symbol.Symbol.TheVariants.{BarBar, AmpAmp, EqualEqual, BangEqual, LessEqual, GreaterEqual, Bar, Caret, Amp, Less, Greater, PlusSign, MinusSign, Star, Slash, Percent, Tilde, Bang, OpenRound, CloseRound, Comma}
+use Rattle.soda_words.specs.declared.symbol.Symbol.TheVariants.{OpenRound, CloseRound, Comma}
 use Rattle.soda_words.specs.declared.token.Placed.{Placed}
-use Rattle.soda_words.specs.declared.token.Token.{Token}
-use Rattle.soda_words.specs.declared.token.Token.TheVariants.{Name, Sign}
-use Rattle.soda_parse.proofs.ReadBack.{cell_there}
-use Rattle.soda_parse.proofs.SameTypes.{both_of}
-use Rattle.soda_parse.proofs.WrittenFormulas.{IsFree, cast_word, numbers, offsets, on, on_both}
-use Rattle.std.proofs.lemmas.Bool.{leb-true}
-use Rattle.soda_parse.proofs.TokenCounts.{Closed, peak, peak_least, IsPassing, passes, passing_closed, reserved_counts, free_counts, one_if_some, comma_passes, cast_reserved}
+use Rattle.soda_words.specs.declared.token.Token.TheVariants.{Sign}
+use Rattle.soda_parse.proofs.TokenCounts.{Closed, peak, peak_least, IsPassing, passing_closed, reserved_counts, free_counts, one_if_some}
 
 -- at most n tokens count, and at most m brackets are open at once, wherever these tokens stand
 pub record Costs (n m : ℕ) (ts : List Placed) : Type 0 where

@@ -3,7 +3,6 @@ use Rattle.std.proofs.Common.{◌≡◌, ℕ, zero, suc, ◌≤◌, ◌&&◌, Bo
 use Rattle.std.specs.Prelude.{slice_get, if◌then◌else◌}
 use Rattle.std.specs.Fmt.{decimal}
 use Rattle.std.specs.List.{list_all}
-use Rattle.std.proofs.lemmas.Bool.Decides.{nat_tests}
 use Rattle.soda_words.specs.IntType.{IntType}
 use Rattle.soda_formula.specs.Grammar.{symbol_on, name_on, IsComponent, ahead, AreOffsets, InRound, AreParted}
 use Rattle.soda_ir.specs.Formula.{Formula}

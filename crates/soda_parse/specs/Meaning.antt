@@ -1,6 +1,5 @@
 -- The program that statements stand for.
-use Rattle.std.specs.Prelude.{ℕ, ◌+◌, ◌*◌, ◌^◌, Bool, true, false, ◌&&◌, nat_le, nat_lt, List, [], ◌∷◌, ◌++◌, map, length, Option, Some, None, option_map, unwrap_or, find, flat_map, filter_map, position, slice_get, if◌then◌else◌, ℤ, ◌-ℤ◌, unsigned_abs}
-use Rattle.std.specs.List.{list_all}
+use Rattle.std.specs.Prelude.{ℕ, ◌+◌, ◌*◌, Bool, false, ◌&&◌, nat_le, nat_lt, List, [], ◌∷◌, ◌++◌, map, length, Option, Some, None, option_map, unwrap_or, find, flat_map, position, if◌then◌else◌, ℤ, ◌-ℤ◌}
 use Rattle.soda_words.specs.IntType.{IntType, int32}
 use Rattle.soda_checks.specs.Conditions.{are_below, first_by, first_tile}
 use Rattle.soda_checks.specs.Outline.{is_same, outline_of}

@@ -1,5 +1,5 @@
 -- The conditions on the program that statements stand for, each as what it finds wrong.
-use Rattle.std.specs.Prelude.{ℕ, suc, ◌+◌, ◌*◌, ◌%◌, Bool, true, false, not, ◌&&◌, ◌==◌, nat_le, nat_lt, List, [], ◌∷◌, ◌++◌, map, length, Option, Some, None, find, if◌then◌else◌, ℤ, unsigned_abs}
+use Rattle.std.specs.Prelude.{ℕ, suc, ◌+◌, ◌*◌, Bool, true, false, not, ◌&&◌, ◌==◌, nat_le, nat_lt, List, [], ◌∷◌, map, length, Option, Some, None, find, if◌then◌else◌, ℤ, unsigned_abs}
 use Rattle.std.specs.List.{list_all}
 use Rattle.soda_words.specs.IntType.{IntType}
 use Rattle.soda_checks.specs.Conditions.{is_tensor}

@@ -1,5 +1,5 @@
 -- Which texts are accepted, as which programs, and which are refused, and why.
-use Rattle.std.specs.Prelude.{◌≡◌, ℕ, suc, ◌<◌, ◌≤◌, Bool, List, [], ◌∷◌, length, Option, Some, None, option_map, if◌then◌else◌}
+use Rattle.std.specs.Prelude.{◌≡◌, ℕ, ◌<◌, ◌≤◌, Bool, List, [], ◌∷◌, length, Option, Some, None, option_map, if◌then◌else◌}
 use Rattle.soda_checks.specs.Conditions.{missing, twice, float_type, bad_width, name_twice, unknown_name, wrong_dims, wrong_tile, param_use}
 use Rattle.soda_checks.specs.Outline.{outline_of}
 use Rattle.soda_checks.specs.declared.outline.Outline.{Outline}

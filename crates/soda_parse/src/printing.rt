@@ -15,7 +15,8 @@ use std::alloc::Global;
 pub fn print(alloc: Global, program: &Program) -> Result<Vec<u8>, NoMemory>
     ensures text { IfOk result (λ text. text.items ≡ canonical (plain program.now)) }
     ensures read_back { IfOk result (λ text. Accepts most_canonical text.items (plain program.now)) }
-    ensures one { IfOk result (λ text. (q : PlainProgram) → Accepts most_canonical text.items q → q ≡ plain program.now) }
+    ensures one { IfOk result (λ text. (q : PlainProgram) → Accepts most_canonical text.items q →
+        q ≡ plain program.now) }
     ensures alone { IfOk result (λ text. (q : PlainProgram) → IsValid q → IsSizedProgram q →
         canonical q ≡ text.items → q ≡ plain program.now) }
 {

@@ -3,7 +3,7 @@ ghost use Rattle.soda_checks.specs.Names.{names_of};
 ghost use Rattle.soda_checks.specs.Outline.{outline_of};
 ghost use Rattle.soda_ir.specs.Program.{PlainProgram, plain};
 ghost use Rattle.soda_ir.specs.Valid.{IsValid};
-ghost use Rattle.soda_parse.specs.Fails.{IfRefused};
+ghost use Rattle.soda_parse.specs.Fails.{IfRefused, unread};
 ghost use Rattle.soda_parse.specs.Text.{Accepts, Refuses};
 ghost use Rattle.soda_parse.specs.declared.refusal.Refusal.{Refusal as Cause};
 ghost use Rattle.soda_formula.specs.Statements.{plain_statement};
@@ -122,6 +122,16 @@ fn answer_statements(
     answer
 }
 
+// The answer to a text whose statements were not read.
+fn unread(fail: SyntaxFail) -> ParseFail
+    ensures { result ≡ unread fail }
+{
+    match fail {
+        SyntaxFail::Refused(line) => ParseFail::Refused(Refusal::Syntax(line)),
+        SyntaxFail::Memory => ParseFail::Memory,
+    }
+}
+
 // The program that a text stands for, or why it is refused.
 fn read_text(alloc: Global, text: &[u8], most: u32) -> Result<Program, ParseFail>
     ensures accepted { IfOk result (λ p. Accepts most text.now (plain p)) }
@@ -139,8 +149,7 @@ fn read_text(alloc: Global, text: &[u8], most: u32) -> Result<Program, ParseFail
             drop(statements);
             answer
         }
-        Err(SyntaxFail::Refused(line)) => Err(ParseFail::Refused(Refusal::Syntax(line))),
-        Err(SyntaxFail::Memory) => Err(ParseFail::Memory),
+        Err(fail) => Err(unread(fail)),
     }
 }
 

@@ -1,4 +1,4 @@
-use Rattle.std.proofs.Common.{◌≡◌, ◌≤◌, ◌+◌, ◌++◌, map, take, drop, []}
+use Rattle.std.proofs.Common.{◌≡◌, map, drop}
 use Rattle.std.specs.Prelude.{unsigned_abs}
 use Rattle.soda_parse.specs.ProgramConditions.{first_past}
 use Rattle.soda_parse.specs.Meaning.{shifted}

@@ -1,4 +1,4 @@
-use Rattle.std.proofs.Common.{◌≡◌, ◌≤◌, ◌+◌, ◌++◌, map, take, drop, []}
+use Rattle.std.proofs.Common.{◌≡◌, ◌+◌, drop}
 use Rattle.soda_ir.specs.Program.{plain}
 use Rattle.soda_parse.specs.ProgramConditions.{circular_from}
 use Rattle.soda_parse.proofs.conditions.first_unplaced.Given as goal

@@ -1,4 +1,4 @@
-use Rattle.std.proofs.Common.{◌≡◌, ◌≤◌, ◌+◌, ◌*◌, map, drop, ℕ}
+use Rattle.std.proofs.Common.{◌≡◌, ◌≤◌, map, drop}
 use Rattle.soda_ir.specs.Program.{plain_param}
 use Rattle.soda_parse.specs.ProgramConditions.{values_past}
 use Rattle.soda_parse.proofs.conditions.params_past.Given as goal

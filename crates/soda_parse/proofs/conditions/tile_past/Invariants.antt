@@ -1,4 +1,4 @@
-use Rattle.std.proofs.Common.{◌≡◌, ◌≤◌, ◌+◌, ◌++◌, map, take, drop, []}
+use Rattle.std.proofs.Common.{◌≡◌, ◌≤◌, drop}
 use Rattle.soda_parse.specs.ProgramConditions.{first_past, partial_products}
 use Rattle.soda_parse.proofs.conditions.tile_past.Given as goal
 

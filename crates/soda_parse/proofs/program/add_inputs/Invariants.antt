@@ -1,5 +1,4 @@
-use Rattle.std.proofs.Common.{◌≡◌, ◌++◌, map, take, drop}
-use Rattle.std.specs.Prelude.{flat_map}
+use Rattle.std.proofs.Common.{◌≡◌, ◌++◌, map, take}
 use Rattle.soda_ir.specs.Program.{plain_tensor}
 use Rattle.soda_parse.specs.Meaning.{input_of}
 use Rattle.soda_parse.proofs.program.add_inputs.Given as goal

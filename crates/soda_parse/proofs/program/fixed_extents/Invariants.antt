@@ -1,4 +1,4 @@
-use Rattle.std.proofs.Common.{◌≡◌, ◌++◌, map, take, drop}
+use Rattle.std.proofs.Common.{◌≡◌, ◌++◌, drop}
 use Rattle.std.specs.Prelude.{flat_map}
 use Rattle.soda_parse.specs.Meaning.{fixed_in}
 use Rattle.soda_parse.proofs.program.fixed_extents.Given as goal

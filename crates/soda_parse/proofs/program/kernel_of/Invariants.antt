@@ -1,5 +1,4 @@
-use Rattle.std.proofs.Common.{◌≡◌, ◌++◌, map, take, drop}
-use Rattle.std.specs.Prelude.{flat_map}
+use Rattle.std.proofs.Common.{◌≡◌, map, drop}
 use Rattle.soda_checks.specs.Conditions.{first_by}
 use Rattle.soda_parse.specs.Meaning.{kernel_in}
 use Rattle.soda_formula.specs.Statements.{plain_statement}

@@ -1,5 +1,4 @@
-use Rattle.std.proofs.Common.{◌≡◌, ◌++◌, map, take, drop}
-use Rattle.std.specs.Prelude.{flat_map}
+use Rattle.std.proofs.Common.{◌≡◌, map, take}
 use Rattle.soda_ir.specs.Program.{plain_param}
 use Rattle.soda_parse.specs.Meaning.{param_of}
 use Rattle.soda_parse.proofs.program.make_params.Given as goal

@@ -1,5 +1,4 @@
-use Rattle.std.proofs.Common.{◌≡◌, ◌++◌, map, take, drop}
-use Rattle.std.specs.Prelude.{flat_map}
+use Rattle.std.proofs.Common.{◌≡◌, map, take}
 use Rattle.soda_parse.proofs.program.values_of.Given as goal
 
 abbrev pub invariant-loop-size : goal.invariant-loop-size
