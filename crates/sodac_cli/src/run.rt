@@ -11,8 +11,8 @@ ghost use Rattle.sodac_cli.specs.Meaning.{HasProgram, IsTextOver, Leaves, Tells,
 
 use crate::Status;
 use job_parts::{PlainWords, array_text, read_cells};
-use soda_io::{FileRole, Files, IoErr};
 use soda_eval::plain_run;
+use soda_io::{FileRole, Files, IoErr};
 use soda_ir::{NoMemory, Program};
 use sqlite_items::Items;
 use std::alloc::Global;
