@@ -1,3 +1,6 @@
+ghost use Rattle.std.specs.Prelude.{◌≡◌};
+ghost use Rattle.soda_checks.specs.Names.{names_of};
+
 use soda_checks::*;
 use soda_syntax::read_statements;
 use std::alloc::Global;
@@ -11,7 +14,9 @@ fn outline(alloc: Global, text: &str) -> Result<Outline, Fail> {
 }
 
 // Every condition that fails, with its line, whether or not another one fails before it.
-fn told_of(alloc: Global, outline: &Outline, names: &Names) -> Result<String, NoMemory> {
+fn told_of(alloc: Global, outline: &Outline, names: &Names) -> Result<String, NoMemory>
+    requires { names.now ≡ names_of outline.now }
+{
     let mut text = String::new(alloc);
     if let Some(need) = missing(outline) {
         text.push_str(format!(in alloc; "missing {need:?}; ")?.as_str())?;
@@ -92,7 +97,9 @@ fn declared_told(
     outline: &Outline,
     names: &Names,
     indexes: &[u64],
-) -> Result<String, NoMemory> {
+) -> Result<String, NoMemory>
+    requires { names.now ≡ names_of outline.now }
+{
     let mut text = String::new(alloc);
     let declared = outline.declared.as_slice();
     for word in declared {
