@@ -1,2 +1,1 @@
 mod Keeps
-mod Settles

@@ -1,5 +1,6 @@
 //! The rule of a queue: what its passes know, and what each kind of step tells them.
 ghost use Rattle.std.specs.Prelude.{◌≡◌};
+
 use crossbeam_queue::protocol::{Join, Lesson, Outcome, Protocol, Split};
 use crossbeam_queue::{Pass, RuledArrayQueue};
 use std::collections::LinkedList;

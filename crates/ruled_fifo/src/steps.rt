@@ -24,7 +24,7 @@ pub(crate) fn push<R: Wait>(rt: &R, line: &Line, pass: &mut Hand, value: i128) -
     ensures rule { MatchResult result
         (λ _. view pass.new ≡ with_sent (view pass.old) value)
         (λ x. (x ≡ value) × (view pass.new ≡ missed (view pass.old))
-            × Held (ruled_capacity line.now) (EndsSent (view pass.old))) }
+        × Held (ruled_capacity line.now) (EndsSent (view pass.old))) }
 {
     match line.push_as::<Sending, R>(rt, pass, value) {
         Ok(()) => Ok(()),

@@ -22,4 +22,4 @@ Kept items views =
     (sender : ℕ) × (taker : ℕ) × (sent : List ℤ) × (taken : List ℤ) × (drained : List ℤ)
     × (sent ≡ taken ++ (drained ++ items))
     × ((pass : ℕ) (v : View) → get_elem? views pass ≡ some v
-        → FitsSender sender sent pass v × FitsTaker taker taken drained pass v × FitsApart v)
+    → FitsSender sender sent pass v × FitsTaker taker taken drained pass v × FitsApart v)
