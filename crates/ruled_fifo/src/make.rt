@@ -21,10 +21,5 @@ pub fn fifo(alloc: Global, capacity: u32) -> Result<(SendEnd, TakeEnd), NoMemory
     let other = queue.another::<TwoEnds>(&mut pass);
     let line = Arc::new(alloc, queue)?;
     let again = Arc::try_clone(&line)?;
-    let send = SendEnd { line, pass };
-    let take = TakeEnd {
-        line: again,
-        pass: other,
-    };
-    Ok((send, take))
+    Ok((SendEnd::of(line, pass), TakeEnd::of(again, other)))
 }

@@ -3,7 +3,6 @@ ghost use Rattle.std.specs.Prelude.{◌≡◌, ◌+◌, [], ◌∷◌, ◌++◌,
 ghost use Rattle.ruled_fifo.specs.Ends.{sent, send_misses, send_capacity, SendsToSame, EndsWithMany};
 
 use crate::ends::SendEnd;
-use crate::steps;
 use std::sync::Wait;
 
 /// The queue was full: the value comes back.
@@ -24,7 +23,7 @@ impl SendEnd {
         ensures back { IfErr result (λ full. full.0 ≡ v) }
         ensures full { OnErr result (EndsWithMany (send_capacity self.old) (sent self.old)) }
     {
-        match steps::push(rt, &self.line, &mut self.pass, v) {
+        match self.push(rt, v) {
             Ok(()) => Ok(()),
             Err(back) => Err(Full(back)),
         }

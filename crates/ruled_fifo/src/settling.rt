@@ -16,13 +16,7 @@ pub fn settle<R: Wait>(rt: &R, send: SendEnd, take: TakeEnd) -> u64
     ensures held { (held : List ℤ) × (sent send ≡ taken take ++ held) × (result ≡ length held) }
     ensures most { result ≤ send_capacity send }
 {
-    let SendEnd { line, mut pass } = send;
-    let TakeEnd {
-        line: again,
-        pass: other,
-    } = take;
-    drop(again);
-    steps::join(&line, &mut pass, other);
+    let (line, pass) = send.join(take);
     take_out(rt, &line, pass)
 }
 

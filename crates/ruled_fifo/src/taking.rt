@@ -3,7 +3,6 @@ ghost use Rattle.std.specs.Prelude.{◌≡◌, ◌+◌, [], ◌∷◌, ◌++◌,
 ghost use Rattle.ruled_fifo.specs.Ends.{taken, take_misses, TakesFromSame};
 
 use crate::ends::TakeEnd;
-use crate::steps;
 use std::sync::Wait;
 
 /// The queue was empty.
@@ -22,7 +21,7 @@ impl TakeEnd {
             (λ _. take_misses self.new ≡ take_misses self.old)
             (λ _. take_misses self.new ≡ take_misses self.old + 1) }
     {
-        match steps::pop(rt, &self.line, &mut self.pass) {
+        match self.pop(rt) {
             Some(value) => Ok(value),
             None => Err(Empty),
         }

@@ -1,5 +1,0 @@
-use Rattle.ruled_fifo.proofs.Keeps.{sends, learns_sent}
-use Rattle.ruled_fifo.proofs.steps.push.Goals as goal
-
-pub push_as-requires-clause-rule : goal.push_as-requires-clause-rule
-push_as-requires-clause-rule g c = (sends _ _ _ _ c.requires.sends, learns_sent _ _ c.requires.sends)
