@@ -1,12 +1,12 @@
 -- Each kind of step keeps the rule, and what a look at the queue teaches.
-use Rattle.std.proofs.Common.{◌≡◌, ◌≢◌, ℕ, ℤ, ◌+◌, zero, suc, true, false, true≢false, List, [], ◌∷◌, ◌++◌, length, set, sym, refl, ap, ◌∙◌, subst, ⊎_elim, append_assoc}
+use Rattle.std.proofs.Common.{◌≡◌, ◌≢◌, ℕ, ℤ, zero, suc, true, false, true≢false, List, [], ◌∷◌, ◌++◌, length, set, sym, refl, ap, ◌∙◌, subst, ⊎_elim, append_assoc}
 use mathlib.Core.Option.{some, some-ne-none}
 use lib.ListN.{get_elem?}
 use Rattle.crossbeam_queue.specs.Fifo.{Pushes, Pops, Forks, Merges, Learns}
 use Rattle.crossbeam_queue.proofs.Lists.{at_set, at_snoc}
 use Rattle.ruled_fifo.specs.declared.rule.View.{View}
 use Rattle.ruled_fifo.specs.rule.Kept.{Kept, FitsSender, FitsTaker, FitsApart}
-use Rattle.ruled_fifo.specs.rule.Steps.{knows, newcomer, spent, sender_of, taker_of, with_sent, missed, with_taken, joined, with_drained, EndsSent, Leaves, HasRest}
+use Rattle.ruled_fifo.specs.rule.Steps.{newcomer, spent, sender_of, taker_of, with_sent, missed, with_taken, joined, with_drained, EndsSent, Leaves, HasRest}
 
 -- what the rule says of one pass
 abbrev Fits : ℕ → ℕ → List ℤ → List ℤ → List ℤ → ℕ → View → Type 0
