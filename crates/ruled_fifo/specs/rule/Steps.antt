@@ -27,7 +27,7 @@ taker_of v = knows false true [] v.taken [] 0
 abbrev pub with_sent : View → ℤ → View
 with_sent v x = knows v.sends v.takes (v.sent ++ x ∷ []) v.taken v.drained v.misses
 
--- 3. a push that finds the queue full, 5. a pop that finds it empty, and 8. such a pop by the joined pass: one miss more
+-- 3. a push that finds the queue full, 5. a pop that finds it empty, 8. such a pop by the joined pass: one miss more
 abbrev pub missed : View → View
 missed v = knows v.sends v.takes v.sent v.taken v.drained (v.misses + 1)
 
