@@ -1,5 +1,5 @@
-//! Passes the numbers below a count from one thread to another, and prints the sum of what came. The words are the queue,
-//! `ruled` or `plain`, how many values it can hold, and the count.
+//! Passes the numbers below a count from one thread to another, and prints the sum of what came.
+//! The words are the queue, `ruled` or `plain`, how many values it can hold, and the count.
 #![tactic(auto)]
 
 ghost use Rattle.std.specs.Prelude.{◌<◌};
