@@ -1,4 +1,4 @@
-// Reads the texts that the program bench_parse makes, in plain C: tokens, statements, trees of formulas, and a look-up
+// Makes texts of programs, or reads one, in plain C: tokens, statements, trees of formulas, and a look-up
 // of each name by a hash. It keeps the grammar and checks that names are known, and none of the other conditions.
 #include <ctype.h>
 #include <stdint.h>
@@ -262,9 +262,25 @@ static void look_up(struct tree *t) {
   look_up(t->c);
 }
 
+static void read_text(const char *name) {
+  FILE *file = fopen(name, "rb");
+  if (!file) fail("no such file");
+  room = 1 << 21;
+  text = more(room);
+  bytes = fread(text, 1, room - 1, file);
+  if (ferror(file) || bytes == room - 1) fail("too long");
+  text[bytes] = 0;
+  fclose(file);
+}
+
+// The words KIND COUNT: prints the text of that kind and size. One word, FILE: reads the text that the file holds.
 int main(int argc, char **argv) {
-  if (argc != 3) return 1;
-  make_text(argv[1], (unsigned)atoi(argv[2]));
+  if (argc == 3) {
+    make_text(argv[1], (unsigned)atoi(argv[2]));
+    return fwrite(text, 1, bytes, stdout) != bytes;
+  }
+  if (argc != 2) return 1;
+  read_text(argv[1]);
   tokenise();
   lines = more((count + 1) * sizeof *lines);
   while (tokens[at].kind != END) statement();

@@ -1,4 +1,3 @@
+mod arrays;
 mod jobs;
 mod narrow;
-mod parts;
-mod refusals;

@@ -1,7 +1,7 @@
 //! Rows on integer types and operators.
 
 use int_types::*;
-use std::test::Fail;
+use std::process::Abort;
 
 type Name = (bool, u8);
 
@@ -39,9 +39,16 @@ const MOST_64: i128 = 9223372036854775807;
 
 const ALL_64: i128 = 18446744073709551615;
 
-fn named(name: Name) -> Result<Ty, Fail> {
-    let ty = Ty::new(name.0, name.1).ok_or("no type")?;
-    Ok(ty)
+// The type of a name, which is checked to be there.
+fn named(rt: &impl Abort, name: Name) -> Ty {
+    let (signed, bits) = name;
+    match Ty::new(signed, bits) {
+        Some(ty) => ty,
+        None => {
+            assert!(rt; false, "no type of {bits} bits");
+            int32()
+        }
+    }
 }
 
 // An operator, its operands with their types, and the type and value that it gives.
@@ -164,69 +171,146 @@ const COMMON: [(Name, Name, Name); 7] = [
     (INT2, UINT40, UINT40),
 ];
 
+// A test, two operands with their types, and the type and value of the one that is chosen.
+const CHOICES: [(i128, Name, i128, Name, i128, Name, i128); 2] = [
+    (-1, INT32, -1, UINT32, 7, UINT32, ALL_32),
+    (0, UINT8, 1, INT8, -128, INT32, -128),
+];
+
+const NO_TYPES: [Name; 6] = [
+    (true, 0),
+    (false, 0),
+    (true, 1),
+    (true, 65),
+    (false, 65),
+    (true, 255),
+];
+
+const LITERALS: [(u64, Name); 3] = [(2147483647, INT32), (2147483648, INT64), (1 << 63, UINT64)];
+
+// A type, the bytes of its cell, and what it is promoted to.
+const SIZES: [(Name, u8, Name); 5] = [
+    (UINT1, 1, INT32),
+    (INT8, 1, INT32),
+    (UINT16, 2, INT32),
+    (INT32, 4, INT32),
+    (UINT40, 8, UINT40),
+];
+
+const WRAPS: [(Name, i128, i128); 6] = [
+    (UINT8, 256, 0),
+    (INT8, 128, -128),
+    (INT2, 2, -2),
+    (UINT64, -1, ALL_64),
+    (INT64, i128::MAX, -1),
+    (UINT1, i128::MIN, 0),
+];
+
+const SPELLED_BINARY: [(BinOp, &str); 18] = [
+    (BinOp::LogOr, "||"),
+    (BinOp::LogAnd, "&&"),
+    (BinOp::BitOr, "|"),
+    (BinOp::BitXor, "^"),
+    (BinOp::BitAnd, "&"),
+    (BinOp::Eq, "=="),
+    (BinOp::Ne, "!="),
+    (BinOp::Lt, "<"),
+    (BinOp::Le, "<="),
+    (BinOp::Gt, ">"),
+    (BinOp::Ge, ">="),
+    (BinOp::Add, "+"),
+    (BinOp::Sub, "-"),
+    (BinOp::Mul, "*"),
+    (BinOp::Div, "/"),
+    (BinOp::Rem, "%"),
+    (BinOp::Min, "min"),
+    (BinOp::Max, "max"),
+];
+
+const SPELLED_UNARY: [(UnOp, &str); 5] = [
+    (UnOp::Plus, "+"),
+    (UnOp::Minus, "-"),
+    (UnOp::Flip, "~"),
+    (UnOp::Not, "!"),
+    (UnOp::Abs, "abs"),
+];
+
 #[test]
-fn operators_of_two_operands(rt: HostRuntime) -> Result<(), Fail> {
+fn operators_of_two_operands(rt: HostRuntime) {
     for (op, a, x, b, y, ty, value) in BINARY {
-        let found = binary(op, named(a)?, x, named(b)?, y);
-        assert_eq!(rt; found, (named(ty)?, value), "{op:?} of {x} and {y}");
+        let found = binary(op, named(&rt, a), x, named(&rt, b), y);
+        assert_eq!(rt; found, (named(&rt, ty), value), "{op:?} of {x} and {y}");
     }
-    Ok(())
 }
 
 #[test]
-fn operators_of_one_operand(rt: HostRuntime) -> Result<(), Fail> {
+fn operators_of_one_operand(rt: HostRuntime) {
     for (op, of, v, ty, value) in UNARY {
-        let of = named(of)?;
+        let of = named(&rt, of);
         assert!(rt; in_range(of, v), "{v} in range");
-        assert_eq!(rt; unary(op, of, v), (named(ty)?, value), "{op:?} of {v}");
+        assert_eq!(rt; unary(op, of, v), (named(&rt, ty), value), "{op:?} of {v}");
     }
-    Ok(())
 }
 
 #[test]
-fn types(rt: HostRuntime) -> Result<(), Fail> {
-    for (a, b, ty) in COMMON {
-        assert_eq!(rt; common(named(a)?, named(b)?), named(ty)?, "{a:?} and {b:?}");
+fn choices(rt: HostRuntime) {
+    for (test, a, x, b, y, ty, value) in CHOICES {
+        let found = select(test, named(&rt, a), x, named(&rt, b), y);
+        assert_eq!(rt; found, (named(&rt, ty), value), "select {test}");
     }
-    for (signed, bits) in [
-        (true, 0),
-        (false, 0),
-        (true, 1),
-        (true, 65),
-        (false, 65),
-        (true, 255),
-    ] {
+}
+
+#[test]
+fn common_types(rt: HostRuntime) {
+    for (a, b, ty) in COMMON {
+        assert_eq!(rt;
+            common(named(&rt, a), named(&rt, b)),
+            named(&rt, ty),
+            "{a:?} and {b:?}"
+        );
+    }
+}
+
+#[test]
+fn no_types(rt: HostRuntime) {
+    for (signed, bits) in NO_TYPES {
         assert_eq!(rt; Ty::new(signed, bits), None, "{signed} {bits}");
     }
-    for (v, ty) in [(2147483647, INT32), (2147483648, INT64), (1 << 63, UINT64)] {
-        assert_eq!(rt; literal_type(v), named(ty)?, "literal {v}");
-    }
-    for (ty, bytes) in [(UINT1, 1), (INT8, 1), (UINT16, 2), (INT32, 4), (UINT40, 8)] {
-        assert_eq!(rt; cell_bytes(named(ty)?), bytes, "cell of {ty:?}");
-    }
-    assert_eq!(rt; promote(named(UINT16)?), int32());
-    Ok(())
 }
 
 #[test]
-fn wraps_and_choices(rt: HostRuntime) -> Result<(), Fail> {
-    for (ty, v, value) in [
-        (UINT8, 256, 0),
-        (INT8, 128, -128),
-        (INT2, 2, -2),
-        (UINT64, -1, ALL_64),
-        (INT64, i128::MAX, -1),
-        (UINT1, i128::MIN, 0),
-    ] {
-        assert_eq!(rt; wrap(named(ty)?, v), value, "{v} in {ty:?}");
+fn types_of_literals(rt: HostRuntime) {
+    for (v, ty) in LITERALS {
+        assert_eq!(rt; literal_type(v), named(&rt, ty), "literal {v}");
     }
-    assert_eq!(rt;
-        select(-1, named(INT32)?, -1, named(UINT32)?, 7),
-        (named(UINT32)?, ALL_32)
-    );
-    assert_eq!(rt;
-        select(0, named(UINT8)?, 1, named(INT8)?, -128),
-        (int32(), -128)
-    );
-    Ok(())
+}
+
+#[test]
+fn sizes_and_promotions(rt: HostRuntime) {
+    for (ty, bytes, promoted) in SIZES {
+        let ty = named(&rt, ty);
+        assert_eq!(rt; cell_bytes(ty), bytes, "cell of {bytes} bytes");
+        assert_eq!(rt;
+            promote(ty),
+            named(&rt, promoted),
+            "promoted to {promoted:?}"
+        );
+    }
+}
+
+#[test]
+fn wraps(rt: HostRuntime) {
+    for (ty, v, value) in WRAPS {
+        assert_eq!(rt; wrap(named(&rt, ty), v), value, "{v} in {ty:?}");
+    }
+}
+
+#[test]
+fn spellings(rt: HostRuntime) {
+    for (op, spelling) in SPELLED_BINARY {
+        assert_eq!(rt; op.spelling(), spelling.as_bytes(), "{op:?}");
+    }
+    for (op, spelling) in SPELLED_UNARY {
+        assert_eq!(rt; op.spelling(), spelling.as_bytes(), "{op:?}");
+    }
 }
