@@ -3,12 +3,14 @@
 
 mod conditions;
 mod formulas;
+mod laws;
 mod printing;
 mod program;
 mod reading;
 mod refusal;
 mod refusing;
 
+pub use laws::texts_are_one;
 pub use printing::print;
 pub use reading::{ParseFail, parse};
 pub use refusal::Refusal;
