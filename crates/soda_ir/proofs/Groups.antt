@@ -1,5 +1,5 @@
 -- The conditions on a program, from their tests and back.
-use Rattle.std.proofs.Common.{◌≡◌, ℕ, Bool, true, false, ◌&&◌, ◌||◌, List, [], ◌∷◌, map, refl, sym, ◌∙◌, ap, Some, None, Option, ℤ}
+use Rattle.std.proofs.Common.{◌≡◌, ℕ, Bool, true, false, ◌&&◌, ◌||◌, List, [], ◌∷◌, map, refl, sym, ◌∙◌, ap, Some, None, Option, ℤ, Result, Ok, Err, IfOk}
 use Rattle.std.specs.List.{list_all, list_any}
 use Rattle.std.proofs.lemmas.Bool.{and_from, and_parts, false≢true}
 use Rattle.std.proofs.lemmas.List.Folds.{list_all-map}
@@ -87,3 +87,7 @@ parts q k n f u s ha hk hn hf hu hs =
       },
       λ g. and_from (k && n && f && u) s (and_from (k && n && f) u (and_from (k && n) f (and_from k n (hk ∙ g.kernel) (hn ∙ g.names)) (hf ∙ sym formulas ∙ g.formulas)) (hu ∙ sym uses ∙ g.uses)) (hs ∙ sym small ∙ g.small),
     )
+
+pub if_ok : {A E : Type 0} {P Q : A → Type 0} (r : Result A E) → IfOk r P → ((a : A) → P a → Q a) → IfOk r Q
+if_ok (Ok a) h f = f a h
+if_ok (Err e) h f = h

@@ -88,7 +88,10 @@ fn fits_itself(alloc: Global, parts: &Parts) -> Result<bool, NoMemory>
 fn is_sound(alloc: Global, parts: &Parts) -> Result<bool, NoMemory>
     ensures { IfOk result (λ sound. IsTrue sound ↔ IsSound (plain parts.now)) }
 {
-    if !keeps_limits(parts) || !has_good_ends(parts) {
+    if !keeps_limits(parts) {
+        return Ok(false);
+    }
+    if !has_good_ends(parts) {
         return Ok(false);
     }
     if !has_good_parts(alloc, parts)? {
