@@ -8,9 +8,8 @@ use crate::placing::are_all_placed;
 use crate::program::Parts;
 use crate::unique::are_names_free;
 use crate::valid::{
-    are_small, fill_burst, has_few_of_each, has_few_values, has_good_burst, has_good_factors,
-    has_good_params, has_good_tile, has_input, has_inputs_first, has_output, have_formulas,
-    have_good_uses, outputs_fit,
+    fill_burst, has_few_of_each, has_few_values, has_good_burst, has_good_factors, has_good_params,
+    has_good_tile, has_input, has_inputs_first, has_output, have_good_formulas, outputs_fit,
 };
 use soda_words::{MOST_LIVE, MOST_READS, is_name};
 use std::alloc::{AllocError, Global};
@@ -57,10 +56,8 @@ fn has_good_parts(alloc: Global, parts: &Parts) -> Result<bool, NoMemory>
     }
     let kernel = is_name(parts.kernel.as_slice());
     let names = are_names_free(alloc, parts.params.as_slice(), parts.tensors.as_slice())?;
-    let formulas = have_formulas(parts.tensors.as_slice());
-    let uses = have_good_uses(parts);
-    let small = are_small(parts);
-    Ok(kernel & names & formulas & uses & small)
+    let formulas = have_good_formulas(parts);
+    Ok(kernel & names & formulas)
 }
 
 fn has_good_ends(parts: &Parts) -> bool

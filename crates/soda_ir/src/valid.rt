@@ -63,7 +63,12 @@ pub(crate) fn has_good_tile(extents: &[u64]) -> bool
 fn has_no_zero(numbers: &[u64]) -> bool
     ensures { result ≡ list_all (λ n. not (n == 0)) numbers.now }
 {
-    numbers.iter().all(|n| *n != 0)
+    for n in numbers {
+        if *n == 0 {
+            return false;
+        }
+    }
+    true
 }
 
 /// Whether the params have few values together.
@@ -83,7 +88,12 @@ fn is_good_param(param: &Param) -> bool
 pub(crate) fn has_good_params(params: &[Param]) -> bool
     ensures { result ≡ list_all (λ q. is_good_param (plain_param q)) params.now }
 {
-    params.iter().all(|q| is_good_param(q))
+    for param in params {
+        if !is_good_param(param) {
+            return false;
+        }
+    }
+    true
 }
 
 /// Whether no input stands behind a local or output.
@@ -105,7 +115,12 @@ pub(crate) fn has_inputs_first(tensors: &[Tensor]) -> bool
 fn has_no_input(tensors: &[Tensor]) -> bool
     ensures { result ≡ list_all (λ u. not (is_input_role u.role)) tensors.now }
 {
-    tensors.iter().all(|u| !u.role.is_input())
+    for tensor in tensors {
+        if tensor.role.is_input() {
+            return false;
+        }
+    }
+    true
 }
 
 fn cell_size(ty: Ty) -> u64
@@ -130,46 +145,54 @@ fn fills_burst(width: u64, tensor: &Tensor) -> bool
 pub(crate) fn has_input(tensors: &[Tensor]) -> bool
     ensures { result ≡ list_any (λ t. is_input_role t.role) tensors.now }
 {
-    tensors.iter().any(|t| t.role.is_input())
+    for tensor in tensors {
+        if tensor.role.is_input() {
+            return true;
+        }
+    }
+    false
 }
 
 /// Whether an output is there.
 pub(crate) fn has_output(tensors: &[Tensor]) -> bool
     ensures { result ≡ list_any (λ t. is_output_role t.role) tensors.now }
 {
-    tensors.iter().any(|t| t.role.is_output())
+    for tensor in tensors {
+        if tensor.role.is_output() {
+            return true;
+        }
+    }
+    false
 }
 
 /// Whether whole cells of each input and output fill a burst.
 pub fn fill_burst(width: u64, tensors: &[Tensor]) -> bool
     ensures { result ≡ list_all (λ t. fills_burst width (plain_tensor t)) tensors.now }
 {
-    tensors.iter().all(|t| fills_burst(width, t))
+    for tensor in tensors {
+        if !fills_burst(width, tensor) {
+            return false;
+        }
+    }
+    true
 }
 
-/// Whether each tensor has a formula exactly where it is no input.
-pub(crate) fn have_formulas(tensors: &[Tensor]) -> bool
-    ensures { result ≡ list_all (λ t. has_formula_if_no_input (plain_tensor t)) tensors.now }
+/// Whether each tensor has a formula exactly where it is no input, and each formula names what is there, at offsets that
+/// may be, and keeps the size rules.
+pub(crate) fn have_good_formulas(parts: &Parts) -> bool
+    ensures { result ≡ list_all (λ t. has_formula_if_no_input (plain_tensor t)
+        && has_good_uses (plain parts.now) (plain_tensor t)
+        && is_small (plain parts.now) (plain_tensor t)) parts.now.tensors }
 {
-    tensors.iter().all(|t| has_formula_if_no_input(t))
-}
-
-/// Whether each formula names what is there, at offsets that may be.
-pub(crate) fn have_good_uses(parts: &Parts) -> bool
-    ensures { result ≡ list_all (λ t. has_good_uses (plain parts.now) (plain_tensor t)) parts.now.tensors }
-{
-    parts
-        .tensors
-        .as_slice()
-        .iter()
-        .all(|t| has_good_uses(parts, t))
-}
-
-/// Whether each formula keeps the size rules.
-pub(crate) fn are_small(parts: &Parts) -> bool
-    ensures { result ≡ list_all (λ t. is_small (plain parts.now) (plain_tensor t)) parts.now.tensors }
-{
-    parts.tensors.as_slice().iter().all(|t| is_small(parts, t))
+    for tensor in parts.tensors.as_slice() {
+        if !has_formula_if_no_input(tensor)
+            || !has_good_uses(parts, tensor)
+            || !is_small(parts, tensor)
+        {
+            return false;
+        }
+    }
+    true
 }
 
 fn push_if(types: &mut Vec<Ty>, wanted: bool, ty: Ty) -> Result<(), NoMemory>
