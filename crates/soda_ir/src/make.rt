@@ -8,8 +8,8 @@ use crate::placing::are_all_placed;
 use crate::program::Parts;
 use crate::unique::are_names_free;
 use crate::valid::{
-    fill_burst, has_few_of_each, has_few_values, has_good_burst, has_good_factors, has_good_params,
-    has_good_tile, has_input, has_inputs_first, has_output, have_good_formulas, outputs_fit,
+    fill_burst, has_few_values, has_good_numbers, has_good_params, has_good_tile, has_input,
+    has_inputs_first, has_output, have_good_formulas, outputs_fit,
 };
 use soda_words::{MOST_LIVE, MOST_READS, is_name};
 use std::alloc::{AllocError, Global};
@@ -40,12 +40,10 @@ impl From<AllocError> for MakeRefusal {
 fn keeps_limits(parts: &Parts) -> bool
     ensures { IsTrue result ↔ KeepsLimits (plain parts.now) }
 {
-    let factors = has_good_factors(parts);
-    let few = has_few_of_each(parts);
+    let numbers = has_good_numbers(parts);
     let tile = has_good_tile(parts.extents.as_slice());
     let values = has_few_values(parts.params.as_slice());
-    let burst = has_good_burst(parts);
-    factors & few & tile & values & burst
+    numbers & tile & values
 }
 
 fn has_good_parts(alloc: Global, parts: &Parts) -> Result<bool, NoMemory>

@@ -209,5 +209,5 @@ fn has_read(reads: &[Read], read: Read) -> bool
 fn is_same_read(a: Read, b: Read) -> bool
     ensures { result ≡ is_same_read a b }
 {
-    a.of == b.of && a.offset == b.offset
+    (a.of == b.of) & (a.offset == b.offset)
 }

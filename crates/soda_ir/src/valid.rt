@@ -27,30 +27,19 @@ use soda_words::{
 };
 use std::alloc::Global;
 
-/// Whether the unroll factor and the number of iterations are within their limits.
-pub(crate) fn has_good_factors(parts: &Parts) -> bool
-    ensures { result ≡ (nat_le 1 parts.now.unroll && nat_le parts.now.unroll most_unroll && nat_le 1 parts.now.iterate
-        && nat_le parts.now.iterate most_iterate) }
+/// Whether the unroll factor, the number of iterations, the burst width and the numbers of dimensions and of tensors are
+/// within their limits.
+pub(crate) fn has_good_numbers(parts: &Parts) -> bool
+    ensures { result ≡ ((nat_le 1 parts.now.unroll && nat_le parts.now.unroll most_unroll)
+        && (nat_le 1 parts.now.iterate && nat_le parts.now.iterate most_iterate)
+        && (nat_le least_burst parts.now.burst && nat_le parts.now.burst most_burst)
+        && (nat_le (suc (length parts.now.extents)) most_dims && nat_le (length parts.now.tensors) most_tensors)) }
 {
-    1 <= parts.unroll
-        && parts.unroll <= MOST_UNROLL
-        && 1 <= parts.iterate
-        && parts.iterate <= MOST_ITERATE
-}
-
-/// Whether the burst width is within its limits.
-pub(crate) fn has_good_burst(parts: &Parts) -> bool
-    ensures { result ≡ (nat_le least_burst parts.now.burst && nat_le parts.now.burst most_burst) }
-{
-    LEAST_BURST <= parts.burst && parts.burst <= MOST_BURST
-}
-
-/// Whether the numbers of dimensions and of tensors are within their limits.
-pub(crate) fn has_few_of_each(parts: &Parts) -> bool
-    ensures { result ≡ (nat_le (suc (length parts.now.extents)) most_dims
-        && nat_le (length parts.now.tensors) most_tensors) }
-{
-    parts.extents.len() < MOST_DIMS && parts.tensors.len() <= MOST_TENSORS
+    let unroll = 1 <= parts.unroll && parts.unroll <= MOST_UNROLL;
+    let iterate = 1 <= parts.iterate && parts.iterate <= MOST_ITERATE;
+    let burst = LEAST_BURST <= parts.burst && parts.burst <= MOST_BURST;
+    let few = parts.extents.len() < MOST_DIMS && parts.tensors.len() <= MOST_TENSORS;
+    unroll & iterate & burst & few
 }
 
 /// Whether no extent is 0, and their product is within its limit.
