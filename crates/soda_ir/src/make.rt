@@ -4,19 +4,20 @@ ghost use Rattle.soda_ir.specs.Valid.{FitsItself, HasGoodEnds, HasGoodParts, IsS
 
 use crate::NoMemory;
 use crate::live::tally;
+use crate::params::value_count;
 use crate::placing::are_all_placed;
 use crate::program::Parts;
 use crate::unique::are_names_free;
 use crate::valid::{
-    fill_burst, has_few_values, has_good_numbers, has_good_params, has_good_tile, has_input,
-    has_inputs_first, has_output, have_good_formulas, outputs_fit,
+    fill_burst, has_good_numbers, has_good_params, has_good_tile, has_input, has_inputs_first,
+    has_output, have_good_formulas, outputs_fit,
 };
-use soda_words::{MOST_LIVE, MOST_READS, is_name};
+use soda_words::{MOST_LIVE, MOST_READS, MOST_VALUES, is_name};
 use std::alloc::{AllocError, Global};
 use thiserror::Error;
 
 /// Why parts make no program.
-#[derive(Clone, Copy, Debug, PartialEq, Eq, Error)]
+#[derive(Clone, Copy, Debug, Error)]
 pub enum MakeRefusal {
     /// A condition on programs fails.
     #[error("the parts are no valid program")]
@@ -42,7 +43,7 @@ fn keeps_limits(parts: &Parts) -> bool
 {
     let numbers = has_good_numbers(parts);
     let tile = has_good_tile(parts.extents.as_slice());
-    let values = has_few_values(parts.params.as_slice());
+    let values = value_count(parts.params.as_slice()) <= MOST_VALUES as u128;
     numbers & tile & values
 }
 

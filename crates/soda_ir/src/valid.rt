@@ -1,7 +1,7 @@
 ghost use Rattle.std.specs.Prelude.{◌≡◌, ◌<◌, ◌≤◌, ◌&&◌, ◌==◌, ◌↔◌, [], ◌∷◌, ◌++◌, suc, not, nat_le, map, length, IfOk, OnOk, IsTrue, if◌then◌else◌};
 ghost use Rattle.std.specs.List.{list_all, list_any};
 ghost use Rattle.soda_words.specs.IntType.{IntType};
-ghost use Rattle.soda_words.specs.Limits.{least_burst, most_burst, most_dims, most_iterate, most_tensors, most_tile, most_unroll, most_values};
+ghost use Rattle.soda_words.specs.Limits.{least_burst, most_burst, most_dims, most_iterate, most_tensors, most_tile, most_unroll};
 ghost use Rattle.soda_ir.specs.Counts.{is_input_role, is_output_role};
 ghost use Rattle.soda_ir.specs.Points.{size};
 ghost use Rattle.soda_ir.specs.Program.{input_types, plain, plain_param, plain_tensor};
@@ -14,16 +14,15 @@ ghost use Rattle.soda_ir.specs.Valid.{
   is_good_param,
   is_small,
   output_types,
-  value_count,
 };
 
 use crate::NoMemory;
-use crate::params::{product, value_count};
+use crate::params::product;
 use crate::program::{Param, Parts, Role, Tensor};
 use crate::uses::{has_formula_if_no_input, has_good_uses, is_small};
 use soda_words::{
     LEAST_BURST, MOST_BURST, MOST_DIMS, MOST_ITERATE, MOST_SIZES, MOST_TENSORS, MOST_TILE,
-    MOST_UNROLL, MOST_VALUES, Ty, cell_bytes,
+    MOST_UNROLL, Ty, cell_bytes,
 };
 use std::alloc::Global;
 
@@ -58,13 +57,6 @@ fn has_no_zero(numbers: &[u64]) -> bool
         }
     }
     true
-}
-
-/// Whether the params have few values together.
-pub(crate) fn has_few_values(params: &[Param]) -> bool
-    ensures { result ≡ nat_le (value_count (map plain_param params.now)) most_values }
-{
-    value_count(params) <= MOST_VALUES as u128
 }
 
 fn is_good_param(param: &Param) -> bool

@@ -25,6 +25,3 @@ returns-in-Cast t c = grind (arith, levels)
 
 pub returns-in-Num : goal.returns-in-Num
 returns-in-Num t c = grind (arith, levels)
-
-pub returns-in-Num-2 : goal.returns-in-Num-2
-returns-in-Num-2 t c = grind (arith, levels)

@@ -1,8 +1,7 @@
-use Rattle.std.proofs.Common.{◌≡◌, [], ◌∷◌, ◌++◌, ◌+ℤ◌, ◌*ℤ◌, pos, get_or, sym, ◌∙◌, ap, rules, arith, FitsSigned, to_z, of_z, length, take, drop, ◌-◌}
+use Rattle.std.proofs.Common.{◌+ℤ◌, ◌*ℤ◌, pos, get_or, sym, ◌∙◌, ap, rules, arith, FitsSigned, to_z, of_z}
 use Rattle.std.specs.Int.{w64, w128}
 use Rattle.std.proofs.lemmas.Int.{to_z-of_z}
-use Rattle.soda_ir.specs.Points.{linear}
-use Rattle.soda_ir.proofs.Distance.{distance_bound, first_alone, first_fits, last_alone, linear-cons, linear-empty, near_behind, reach_tail, wide_fits}
+use Rattle.soda_ir.proofs.Distance.{distance_bound, first_alone, first_fits, last_alone, linear-cons, linear-empty, reach_tail, wide_fits}
 use Rattle.soda_ir.proofs.reads.+distance.Goals as goal
 
 pub outward-requires : goal.outward-requires
