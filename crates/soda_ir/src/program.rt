@@ -57,7 +57,7 @@ impl Role {
 }
 
 /// What an output's cell is outside its region.
-#[derive(Clone, Copy)]
+#[derive(Clone, Copy, Debug)]
 pub enum Border {
     /// 0.
     Ignore,
