@@ -59,6 +59,51 @@ one_outward d r x n f l g h k e =
     let fits : FitsSigned w128 (d +ℤ (pos n *ℤ r)) = small_sum d (pos n *ℤ r) f (small_product n r l h) in
     (subst (λ v. FitsSigned w128 v) (sym s) fits, ap (λ v. to_z w128 (of_z w128 v)) s ∙ to_z-of_z w128 (d +ℤ (pos n *ℤ r)) fits)
 
+-- a component as the code widens it
+widened : (d : ℤ) → FitsSigned w64 d → to_z w128 (of_z w128 (to_z w64 (of_z w64 d))) ≡ d
+widened d f =
+    ap (λ v. to_z w128 (of_z w128 v)) (to_z-of_z w64 d f) ∙ to_z-of_z w128 d (omega (arith, ints, f))
+
+pub wide_fits : (d : ℤ) → FitsSigned w64 d → FitsSigned w128 (to_z w64 (of_z w64 d))
+wide_fits d f = rw (to_z-of_z w64 d f) (omega (arith, ints, f))
+
+pub first_fits : (o : List ℤ) → is_near o ≡ true → FitsSigned w64 (get_or o 0 (pos 0))
+first_fits o h = omega (arith, ints, near_first o h)
+
+-- a distance along one dimension alone: the other extents are none, or the first of them is 0
+pub last_alone : (ns : List ℕ) (o : List ℤ) → is_near o ≡ true → length ns < 1 → to_z w128 (of_z w128 (to_z w64 (of_z w64 (get_or o 0 (pos 0))))) ≡ linear (ns ++ 1 ∷ []) o
+last_alone [] o h k = widened (get_or o 0 (pos 0)) (first_fits o h) ∙ sym (linear-last 1 o)
+last_alone (n ∷ ns) o h k = absurd (omega arith)
+
+none_along : (n : ℕ) (r : ℤ) → n ≡ 0 → pos n *ℤ r ≡ pos 0
+none_along zero r e = omega (arith, ints)
+none_along (suc n) r e = absurd (omega arith)
+
+pub first_alone : (ns : List ℕ) (o : List ℤ) → is_near o ≡ true → 0 < length ns → 0 < length o → get_or ns 0 0 ≡ 0 → to_z w128 (of_z w128 (to_z w64 (of_z w64 (get_or o 0 (pos 0))))) ≡ linear (ns ++ 1 ∷ []) o
+first_alone [] o h k l e = absurd (omega arith)
+first_alone (n ∷ ns) [] h k l e = absurd (omega arith)
+first_alone (n ∷ ns) (d ∷ ds) h k l e =
+    let rest = none_along n (linear (ns ++ 1 ∷ []) ds) e in
+    widened d (first_fits (d ∷ ds) h) ∙ omega (arith, ints, rest)
+
+-- the bound of a distance
+linear_bound : (ns : List ℕ) (o : List ℤ) → is_near o ≡ true → unsigned_abs (linear (ns ++ 1 ∷ []) o) ≤ 32768 * reach ns
+linear_bound [] o h = rw (linear-last 1 o) (near_first o h)
+linear_bound (n ∷ ns) [] h = omega arith
+linear_bound (n ∷ ns) (d ∷ ds) h =
+    let parts = and_parts (nat_le (unsigned_abs d) 32768) (is_near ds) h in
+    sum_bound d (pos n *ℤ linear (ns ++ 1 ∷ []) ds) (n * reach ns) (near_first (d ∷ ds) h) (times_bound n (reach ns) (linear (ns ++ 1 ∷ []) ds) (linear_bound ns ds parts.1))
+
+pub distance_bound : (ns : List ℕ) (o : List ℤ) (x : ℤ) → is_near o ≡ true → x ≡ linear (ns ++ 1 ∷ []) o → unsigned_abs x ≤ 32768 * reach ns
+distance_bound ns o x h e = rw e (linear_bound ns o h)
+
+-- what is behind the first component is as near
+pub near_behind : (o : List ℤ) → is_near o ≡ true → is_near (take (length o - 1) (drop 1 o)) ≡ true
+near_behind [] h = refl
+near_behind (d ∷ ds) h =
+    let more : take (length (d ∷ ds) - 1) (drop 1 (d ∷ ds)) ≡ ds = grind (arith, common_steps) in
+    ap is_near more ∙ (and_parts (nat_le (unsigned_abs d) 32768) (is_near ds) h).1
+
 none_some : {f : Formula} → None ≡ Some f → ⊥
 none_some e = cc
 
@@ -101,14 +146,6 @@ linear-cons (n ∷ ns) (d ∷ ds) h k =
 pub linear-empty : (ns : List ℕ) (o : List ℤ) → length o < 1 → pos 0 ≡ linear ns o
 linear-empty ns [] h = sym (linear-none ns)
 linear-empty ns (d ∷ ds) h = absurd (omega arith)
-
--- one dimension more of the bound of a distance
-pub bound_step : (ns : List ℕ) (o : List ℤ) (r x : ℤ) → 0 < length ns → is_near o ≡ true → unsigned_abs r ≤ 32768 * reach (take (length ns - 1) (drop 1 ns)) → x ≡ get_or o 0 (pos 0) +ℤ (pos (get_or ns 0 0) *ℤ r) → unsigned_abs x ≤ 32768 * reach ns
-bound_step ns o r x h k b e =
-    let s = reach (take (length ns - 1) (drop 1 ns)) in
-    let t = times_bound (get_or ns 0 0) s r b in
-    let u = sum_bound (get_or o 0 (pos 0)) (pos (get_or ns 0 0) *ℤ r) (get_or ns 0 0 * s) (near_first o k) t in
-    rw e (rw (reach-cons ns h) u)
 
 pub reach_tail : (ns : List ℕ) → 0 < length ns → (get_or ns 0 0 ≡ 0 → ⊥) → reach (take (length ns - 1) (drop 1 ns)) ≤ reach ns
 reach_tail ns h k =

@@ -1,5 +1,5 @@
 -- The conditions on a program, from their tests and back.
-use Rattle.std.proofs.Common.{◌≡◌, ℕ, Bool, true, false, ◌&&◌, ◌||◌, List, [], ◌∷◌, map, refl, sym, ◌∙◌, ap, Some, None, Option, ℤ}
+use Rattle.std.proofs.Common.{◌≡◌, ℕ, Bool, true, false, ◌&&◌, ◌||◌, List, [], ◌∷◌, map, refl, sym, ◌∙◌, ap, Some, None, Option, ℤ, Result, Ok, Err, IfOk}
 use Rattle.std.specs.List.{list_all, list_any}
 use Rattle.std.proofs.lemmas.Bool.{and_from, and_parts, false≢true}
 use Rattle.std.proofs.lemmas.List.Folds.{list_all-map}
@@ -71,19 +71,42 @@ pub no_parts : (q : Parts) (a : Bool) → a ≡ list_all (λ r. is_good_param (p
 no_parts q a ha off g =
     false≢true (sym off ∙ ha ∙ sym (list_all-map is_good_param plain_param q.params) ∙ g.params)
 
-pub parts : (q : Parts) (k n f u s : Bool) → list_all (λ r. is_good_param (plain_param r)) q.params ≡ true → k ≡ is_name q.kernel → n ≡ are_free_names (names_of (map plain_param q.params) (map plain_tensor q.tensors)) → f ≡ list_all (λ t. has_formula_if_no_input (plain_tensor t)) q.tensors → u ≡ list_all (λ t. has_good_uses (plain q) (plain_tensor t)) q.tensors → s ≡ list_all (λ t. is_small (plain q) (plain_tensor t)) q.tensors → ((k && n && f && u && s) ≡ true → HasGoodParts (plain q)) × (HasGoodParts (plain q) → (k && n && f && u && s) ≡ true)
-parts q k n f u s ha hk hn hf hu hs =
+turned : (a b c d e f : Bool) → ((a && b && c) && (d && e && f)) ≡ ((a && d) && (b && e) && (c && f))
+turned false b c d e f = refl
+turned true false c false e f = refl
+turned true false c true e f = refl
+turned true true false false e f = refl
+turned true true false true false f = refl
+turned true true false true true f = refl
+turned true true true d e f = refl
+
+-- a test of three parts holds of all where each part does
+list_all-three : {X : Type 0} → (p q r : X → Bool) (xs : List X) → list_all (λ x. p x && q x && r x) xs ≡ (list_all p xs && list_all q xs && list_all r xs)
+list_all-three p q r [] = refl
+list_all-three p q r (x ∷ xs) =
+    ap (λ b. (p x && q x && r x) && b) (list_all-three p q r xs) ∙ turned (p x) (q x) (r x) (list_all p xs) (list_all q xs) (list_all r xs)
+
+pub parts : (q : Parts) (k n f : Bool) → list_all (λ r. is_good_param (plain_param r)) q.params ≡ true → k ≡ is_name q.kernel → n ≡ are_free_names (names_of (map plain_param q.params) (map plain_tensor q.tensors)) → f ≡ list_all (λ t. has_formula_if_no_input (plain_tensor t) && has_good_uses (plain q) (plain_tensor t) && is_small (plain q) (plain_tensor t)) q.tensors → ((k && n && f) ≡ true → HasGoodParts (plain q)) × (HasGoodParts (plain q) → (k && n && f) ≡ true)
+parts q k n f ha hk hn hf =
     let params = list_all-map is_good_param plain_param q.params in
     let formulas = list_all-map has_formula_if_no_input plain_tensor q.tensors in
     let uses = list_all-map (has_good_uses (plain q)) plain_tensor q.tensors in
-    let small = list_all-map (is_small (plain q)) plain_tensor q.tensors in (
-      λ e. let v = and_parts (k && n && f && u) s e in let w = and_parts (k && n && f) u v.0 in let x = and_parts (k && n) f w.0 in let y = and_parts k n x.0 in record {
+    let small = list_all-map (is_small (plain q)) plain_tensor q.tensors in
+    let A = list_all (λ t. has_formula_if_no_input (plain_tensor t)) q.tensors in
+    let B = list_all (λ t. has_good_uses (plain q) (plain_tensor t)) q.tensors in
+    let C = list_all (λ t. is_small (plain q) (plain_tensor t)) q.tensors in
+    let all : f ≡ (A && B && C) = hf ∙ list_all-three (λ t. has_formula_if_no_input (plain_tensor t)) (λ t. has_good_uses (plain q) (plain_tensor t)) (λ t. is_small (plain q) (plain_tensor t)) q.tensors in (
+      λ e. let v = and_parts (k && n) f e in let y = and_parts k n v.0 in let w = and_parts (A && B) C (sym all ∙ v.1) in let x = and_parts A B w.0 in record {
         kernel = sym hk ∙ y.0;
         params = params ∙ ha;
         names = sym hn ∙ y.1;
-        formulas = formulas ∙ sym hf ∙ x.1;
-        uses = uses ∙ sym hu ∙ w.1;
-        small = small ∙ sym hs ∙ v.1;
+        formulas = formulas ∙ x.0;
+        uses = uses ∙ x.1;
+        small = small ∙ w.1;
       },
-      λ g. and_from (k && n && f && u) s (and_from (k && n && f) u (and_from (k && n) f (and_from k n (hk ∙ g.kernel) (hn ∙ g.names)) (hf ∙ sym formulas ∙ g.formulas)) (hu ∙ sym uses ∙ g.uses)) (hs ∙ sym small ∙ g.small),
+      λ g. and_from (k && n) f (and_from k n (hk ∙ g.kernel) (hn ∙ g.names)) (all ∙ and_from (A && B) C (and_from A B (sym formulas ∙ g.formulas) (sym uses ∙ g.uses)) (sym small ∙ g.small)),
     )
+
+pub if_ok : {A E : Type 0} {P Q : A → Type 0} (r : Result A E) → IfOk r P → ((a : A) → P a → Q a) → IfOk r Q
+if_ok (Ok a) h f = f a h
+if_ok (Err e) h f = h

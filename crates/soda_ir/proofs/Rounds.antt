@@ -1,5 +1,5 @@
 -- One round of placing, from marks of tensors that can be placed.
-use Rattle.std.proofs.Common.{◌≡◌, ℕ, zero, suc, ◌+◌, ◌<◌, ◌≤◌, Bool, true, false, List, length, slice_index_or, set, refl, sym, ◌∙◌, ap, arith, ⊎_elim, add-one}
+use Rattle.std.proofs.Common.{◌≡◌, ℕ, zero, suc, ◌+◌, ◌<◌, ◌≤◌, Bool, true, false, List, length, slice_index_or, set, sym, ◌∙◌, ap, arith, ⊎_elim, add-one}
 use Rattle.std.proofs.lemmas.Bool.{cases_eq, cases_lt, false≢true}
 use Rattle.std.proofs.lemmas.List.{get_or-set_other, length-map}
 use Rattle.soda_ir.specs.declared.program.Parts.{Parts}

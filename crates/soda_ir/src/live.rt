@@ -48,7 +48,7 @@ fn mark_read(graph: &[Items<Read>], before: &[bool], marks: &[bool], next: &mut 
         && reads_in graph.now x y) (length graph.now)) }
 {
     for x in 0..graph.len() as u32 {
-        if is_marked(marks, x) && !is_marked(before, x) {
+        if is_marked(marks, x) & !is_marked(before, x) {
             mark(graph[x as usize].as_slice(), next);
         }
     }
@@ -119,7 +119,7 @@ fn outputs_needed(alloc: Global, parts: &Parts, needed: &[bool]) -> Result<Vec<b
     let mut number = 0;
     for x in 0..parts.tensors.len() as u32 {
         let output = parts.is_output(x);
-        marks.push(output && is_marked(needed, number))?;
+        marks.push(output & is_marked(needed, number))?;
         number = next_number(number, output);
     }
     Ok(marks)
@@ -157,7 +157,7 @@ fn one_if(test: bool) -> u64
 fn is_counted(parts: &Parts, live: &[bool], tensor: u32) -> bool
     ensures { result ≡ (not (is_input (plain parts.now) tensor) && slice_index_or live.now tensor false) }
 {
-    !parts.is_input(tensor) && is_marked(live, tensor)
+    !parts.is_input(tensor) & is_marked(live, tensor)
 }
 
 // How many locals and outputs are marked.

@@ -4,20 +4,20 @@ ghost use Rattle.soda_ir.specs.Valid.{FitsItself, HasGoodEnds, HasGoodParts, IsS
 
 use crate::NoMemory;
 use crate::live::tally;
+use crate::params::value_count;
 use crate::placing::are_all_placed;
 use crate::program::Parts;
 use crate::unique::are_names_free;
 use crate::valid::{
-    are_small, fill_burst, has_few_of_each, has_few_values, has_good_burst, has_good_factors,
-    has_good_params, has_good_tile, has_input, has_inputs_first, has_output, have_formulas,
-    have_good_uses, outputs_fit,
+    fill_burst, has_good_numbers, has_good_params, has_good_tile, has_input, has_inputs_first,
+    has_output, have_good_formulas, outputs_fit,
 };
-use soda_words::{MOST_LIVE, MOST_READS, is_name};
+use soda_words::{MOST_LIVE, MOST_READS, MOST_VALUES, is_name};
 use std::alloc::{AllocError, Global};
 use thiserror::Error;
 
 /// Why parts make no program.
-#[derive(Clone, Copy, Debug, PartialEq, Eq, Error)]
+#[derive(Clone, Copy, Debug, Error)]
 pub enum MakeRefusal {
     /// A condition on programs fails.
     #[error("the parts are no valid program")]
@@ -41,12 +41,10 @@ impl From<AllocError> for MakeRefusal {
 fn keeps_limits(parts: &Parts) -> bool
     ensures { IsTrue result ↔ KeepsLimits (plain parts.now) }
 {
-    let factors = has_good_factors(parts);
-    let few = has_few_of_each(parts);
+    let numbers = has_good_numbers(parts);
     let tile = has_good_tile(parts.extents.as_slice());
-    let values = has_few_values(parts.params.as_slice());
-    let burst = has_good_burst(parts);
-    factors & few & tile & values & burst
+    let values = value_count(parts.params.as_slice()) <= MOST_VALUES as u128;
+    numbers & tile & values
 }
 
 fn has_good_parts(alloc: Global, parts: &Parts) -> Result<bool, NoMemory>
@@ -57,10 +55,8 @@ fn has_good_parts(alloc: Global, parts: &Parts) -> Result<bool, NoMemory>
     }
     let kernel = is_name(parts.kernel.as_slice());
     let names = are_names_free(alloc, parts.params.as_slice(), parts.tensors.as_slice())?;
-    let formulas = have_formulas(parts.tensors.as_slice());
-    let uses = have_good_uses(parts);
-    let small = are_small(parts);
-    Ok(kernel & names & formulas & uses & small)
+    let formulas = have_good_formulas(parts);
+    Ok(kernel & names & formulas)
 }
 
 fn has_good_ends(parts: &Parts) -> bool
@@ -88,7 +84,10 @@ fn fits_itself(alloc: Global, parts: &Parts) -> Result<bool, NoMemory>
 fn is_sound(alloc: Global, parts: &Parts) -> Result<bool, NoMemory>
     ensures { IfOk result (λ sound. IsTrue sound ↔ IsSound (plain parts.now)) }
 {
-    if !keeps_limits(parts) || !has_good_ends(parts) {
+    if !keeps_limits(parts) {
+        return Ok(false);
+    }
+    if !has_good_ends(parts) {
         return Ok(false);
     }
     if !has_good_parts(alloc, parts)? {

@@ -24,7 +24,7 @@ pub struct Param {
 }
 
 /// What a tensor is for.
-#[derive(Clone, Copy, Debug, PartialEq, Eq)]
+#[derive(Clone, Copy, Debug)]
 pub enum Role {
     /// Read from a file.
     Input,
@@ -57,7 +57,7 @@ impl Role {
 }
 
 /// What an output's cell is outside its region.
-#[derive(Clone, Copy, Debug, PartialEq, Eq)]
+#[derive(Clone, Copy, Debug)]
 pub enum Border {
     /// 0.
     Ignore,
@@ -130,10 +130,16 @@ impl Program {
         ensures valid { IfOk result (λ program. IsValid (plain program)) }
         ensures invalid { result ≡ Err MakeRefusal.Invalid → IsValid (plain parts) → ⊥ }
     {
-        if is_valid(alloc, &parts)? {
-            Ok(Program { parts })
-        } else {
-            Err(MakeRefusal::Invalid)
+        match is_valid(alloc, &parts) {
+            Ok(true) => Ok(Program { parts }),
+            Ok(false) => {
+                drop(parts);
+                Err(MakeRefusal::Invalid)
+            }
+            Err(_) => {
+                drop(parts);
+                Err(MakeRefusal::Memory)
+            }
         }
     }
 

@@ -198,11 +198,16 @@ pub(crate) fn distinct_count(reads: &[Read]) -> u64
 fn has_read(reads: &[Read], read: Read) -> bool
     ensures { result ≡ list_any (is_same_read read) reads.now }
 {
-    reads.iter().any(|r| is_same_read(read, *r))
+    for other in reads {
+        if is_same_read(read, *other) {
+            return true;
+        }
+    }
+    false
 }
 
 fn is_same_read(a: Read, b: Read) -> bool
     ensures { result ≡ is_same_read a b }
 {
-    a.of == b.of && a.offset == b.offset
+    (a.of == b.of) & (a.offset == b.offset)
 }

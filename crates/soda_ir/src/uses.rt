@@ -13,7 +13,12 @@ use soda_words::{MOST_BRACKETS, MOST_OFFSET, MOST_TOKENS};
 fn is_near(offset: &[i64]) -> bool
     ensures { result ≡ is_near offset.now }
 {
-    offset.iter().all(|d| d.unsigned_abs() <= MOST_OFFSET)
+    for d in offset {
+        if d.unsigned_abs() > MOST_OFFSET {
+            return false;
+        }
+    }
+    true
 }
 
 fn is_good_cell(parts: &Parts, tensor: u32, offset: &Offset) -> bool

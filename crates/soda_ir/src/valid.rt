@@ -1,7 +1,7 @@
 ghost use Rattle.std.specs.Prelude.{◌≡◌, ◌<◌, ◌≤◌, ◌&&◌, ◌==◌, ◌↔◌, [], ◌∷◌, ◌++◌, suc, not, nat_le, map, length, IfOk, OnOk, IsTrue, if◌then◌else◌};
 ghost use Rattle.std.specs.List.{list_all, list_any};
 ghost use Rattle.soda_words.specs.IntType.{IntType};
-ghost use Rattle.soda_words.specs.Limits.{least_burst, most_burst, most_dims, most_iterate, most_tensors, most_tile, most_unroll, most_values};
+ghost use Rattle.soda_words.specs.Limits.{least_burst, most_burst, most_dims, most_iterate, most_tensors, most_tile, most_unroll};
 ghost use Rattle.soda_ir.specs.Counts.{is_input_role, is_output_role};
 ghost use Rattle.soda_ir.specs.Points.{size};
 ghost use Rattle.soda_ir.specs.Program.{input_types, plain, plain_param, plain_tensor};
@@ -14,43 +14,31 @@ ghost use Rattle.soda_ir.specs.Valid.{
   is_good_param,
   is_small,
   output_types,
-  value_count,
 };
 
 use crate::NoMemory;
-use crate::params::{product, value_count};
+use crate::params::product;
 use crate::program::{Param, Parts, Role, Tensor};
 use crate::uses::{has_formula_if_no_input, has_good_uses, is_small};
 use soda_words::{
     LEAST_BURST, MOST_BURST, MOST_DIMS, MOST_ITERATE, MOST_SIZES, MOST_TENSORS, MOST_TILE,
-    MOST_UNROLL, MOST_VALUES, Ty, cell_bytes,
+    MOST_UNROLL, Ty, cell_bytes,
 };
 use std::alloc::Global;
 
-/// Whether the unroll factor and the number of iterations are within their limits.
-pub(crate) fn has_good_factors(parts: &Parts) -> bool
-    ensures { result ≡ (nat_le 1 parts.now.unroll && nat_le parts.now.unroll most_unroll && nat_le 1 parts.now.iterate
-        && nat_le parts.now.iterate most_iterate) }
+/// Whether the unroll factor, the number of iterations, the burst width and the numbers of dimensions and of tensors are
+/// within their limits.
+pub(crate) fn has_good_numbers(parts: &Parts) -> bool
+    ensures { result ≡ ((nat_le 1 parts.now.unroll && nat_le parts.now.unroll most_unroll)
+        && (nat_le 1 parts.now.iterate && nat_le parts.now.iterate most_iterate)
+        && (nat_le least_burst parts.now.burst && nat_le parts.now.burst most_burst)
+        && (nat_le (suc (length parts.now.extents)) most_dims && nat_le (length parts.now.tensors) most_tensors)) }
 {
-    1 <= parts.unroll
-        && parts.unroll <= MOST_UNROLL
-        && 1 <= parts.iterate
-        && parts.iterate <= MOST_ITERATE
-}
-
-/// Whether the burst width is within its limits.
-pub(crate) fn has_good_burst(parts: &Parts) -> bool
-    ensures { result ≡ (nat_le least_burst parts.now.burst && nat_le parts.now.burst most_burst) }
-{
-    LEAST_BURST <= parts.burst && parts.burst <= MOST_BURST
-}
-
-/// Whether the numbers of dimensions and of tensors are within their limits.
-pub(crate) fn has_few_of_each(parts: &Parts) -> bool
-    ensures { result ≡ (nat_le (suc (length parts.now.extents)) most_dims
-        && nat_le (length parts.now.tensors) most_tensors) }
-{
-    parts.extents.len() < MOST_DIMS && parts.tensors.len() <= MOST_TENSORS
+    let unroll = 1 <= parts.unroll && parts.unroll <= MOST_UNROLL;
+    let iterate = 1 <= parts.iterate && parts.iterate <= MOST_ITERATE;
+    let burst = LEAST_BURST <= parts.burst && parts.burst <= MOST_BURST;
+    let few = parts.extents.len() < MOST_DIMS && parts.tensors.len() <= MOST_TENSORS;
+    unroll & iterate & burst & few
 }
 
 /// Whether no extent is 0, and their product is within its limit.
@@ -63,14 +51,12 @@ pub(crate) fn has_good_tile(extents: &[u64]) -> bool
 fn has_no_zero(numbers: &[u64]) -> bool
     ensures { result ≡ list_all (λ n. not (n == 0)) numbers.now }
 {
-    numbers.iter().all(|n| *n != 0)
-}
-
-/// Whether the params have few values together.
-pub(crate) fn has_few_values(params: &[Param]) -> bool
-    ensures { result ≡ nat_le (value_count (map plain_param params.now)) most_values }
-{
-    value_count(params) <= MOST_VALUES as u128
+    for n in numbers {
+        if *n == 0 {
+            return false;
+        }
+    }
+    true
 }
 
 fn is_good_param(param: &Param) -> bool
@@ -83,7 +69,12 @@ fn is_good_param(param: &Param) -> bool
 pub(crate) fn has_good_params(params: &[Param]) -> bool
     ensures { result ≡ list_all (λ q. is_good_param (plain_param q)) params.now }
 {
-    params.iter().all(|q| is_good_param(q))
+    for param in params {
+        if !is_good_param(param) {
+            return false;
+        }
+    }
+    true
 }
 
 /// Whether no input stands behind a local or output.
@@ -105,7 +96,12 @@ pub(crate) fn has_inputs_first(tensors: &[Tensor]) -> bool
 fn has_no_input(tensors: &[Tensor]) -> bool
     ensures { result ≡ list_all (λ u. not (is_input_role u.role)) tensors.now }
 {
-    tensors.iter().all(|u| !u.role.is_input())
+    for tensor in tensors {
+        if tensor.role.is_input() {
+            return false;
+        }
+    }
+    true
 }
 
 fn cell_size(ty: Ty) -> u64
@@ -130,46 +126,54 @@ fn fills_burst(width: u64, tensor: &Tensor) -> bool
 pub(crate) fn has_input(tensors: &[Tensor]) -> bool
     ensures { result ≡ list_any (λ t. is_input_role t.role) tensors.now }
 {
-    tensors.iter().any(|t| t.role.is_input())
+    for tensor in tensors {
+        if tensor.role.is_input() {
+            return true;
+        }
+    }
+    false
 }
 
 /// Whether an output is there.
 pub(crate) fn has_output(tensors: &[Tensor]) -> bool
     ensures { result ≡ list_any (λ t. is_output_role t.role) tensors.now }
 {
-    tensors.iter().any(|t| t.role.is_output())
+    for tensor in tensors {
+        if tensor.role.is_output() {
+            return true;
+        }
+    }
+    false
 }
 
 /// Whether whole cells of each input and output fill a burst.
 pub fn fill_burst(width: u64, tensors: &[Tensor]) -> bool
     ensures { result ≡ list_all (λ t. fills_burst width (plain_tensor t)) tensors.now }
 {
-    tensors.iter().all(|t| fills_burst(width, t))
+    for tensor in tensors {
+        if !fills_burst(width, tensor) {
+            return false;
+        }
+    }
+    true
 }
 
-/// Whether each tensor has a formula exactly where it is no input.
-pub(crate) fn have_formulas(tensors: &[Tensor]) -> bool
-    ensures { result ≡ list_all (λ t. has_formula_if_no_input (plain_tensor t)) tensors.now }
+/// Whether each tensor has a formula exactly where it is no input, and each formula names what is there, at offsets that
+/// may be, and keeps the size rules.
+pub(crate) fn have_good_formulas(parts: &Parts) -> bool
+    ensures { result ≡ list_all (λ t. has_formula_if_no_input (plain_tensor t)
+        && has_good_uses (plain parts.now) (plain_tensor t)
+        && is_small (plain parts.now) (plain_tensor t)) parts.now.tensors }
 {
-    tensors.iter().all(|t| has_formula_if_no_input(t))
-}
-
-/// Whether each formula names what is there, at offsets that may be.
-pub(crate) fn have_good_uses(parts: &Parts) -> bool
-    ensures { result ≡ list_all (λ t. has_good_uses (plain parts.now) (plain_tensor t)) parts.now.tensors }
-{
-    parts
-        .tensors
-        .as_slice()
-        .iter()
-        .all(|t| has_good_uses(parts, t))
-}
-
-/// Whether each formula keeps the size rules.
-pub(crate) fn are_small(parts: &Parts) -> bool
-    ensures { result ≡ list_all (λ t. is_small (plain parts.now) (plain_tensor t)) parts.now.tensors }
-{
-    parts.tensors.as_slice().iter().all(|t| is_small(parts, t))
+    for tensor in parts.tensors.as_slice() {
+        if !has_formula_if_no_input(tensor)
+            || !has_good_uses(parts, tensor)
+            || !is_small(parts, tensor)
+        {
+            return false;
+        }
+    }
+    true
 }
 
 fn push_if(types: &mut Vec<Ty>, wanted: bool, ty: Ty) -> Result<(), NoMemory>

@@ -60,6 +60,37 @@ loop-later-preserved c =
       each = ap length c.in_ok-wanted-2.ensures ∙ length-listed _ _ ∙ sym m;
     }
 
+pub all_reads-requires : goal.all_reads-requires
+all_reads-requires c = c.requires
+
+pub input_count-live-requires : goal.input_count-live-requires
+input_count-live-requires c =
+    omega (arith, length-map c.args.parts.now.tensors plain_tensor, c.requires.few_tensors)
+
+pub outputs-requires : goal.outputs-requires
+outputs-requires c =
+    omega (arith, length-map c.args.parts.now.tensors plain_tensor, c.requires.few_tensors)
+
+pub statement_count-live-requires : goal.statement_count-live-requires
+statement_count-live-requires c =
+    omega (arith, length-map c.args.parts.now.tensors plain_tensor, c.requires.few_tensors)
+
+pub statement_reads-reads-requires : goal.statement_reads-reads-requires
+statement_reads-reads-requires c =
+    omega (arith, length-map c.args.parts.now.tensors plain_tensor, c.requires.few_tensors)
+
+pub outputs_needed-requires : goal.outputs_needed-requires
+outputs_needed-requires c =
+    omega (arith, length-map c.args.parts.now.tensors plain_tensor, c.requires.few_tensors)
+
+pub overflow_add-live : goal.overflow_add-live
+overflow_add-live c =
+    omega (arith, c.loop-later.invariant.few_live, c.statement_count-live.ensures.most, length-map c.args.parts.now.tensors plain_tensor, c.requires.few_tensors, c.requires.few_iterations)
+
+pub overflow_add-reads : goal.overflow_add-reads
+overflow_add-reads c =
+    omega (arith, c.loop-later.invariant.few_reads, c.statement_reads-reads.ensures.most, c.requires.few_iterations)
+
 pub returns-clause-live : goal.returns-clause-live
 unfolding live_count
 returns-clause-live c =
