@@ -33,16 +33,24 @@ fn kind_number(kind: SettingKind) -> u8
 fn has_kind(settings: &[Setting], kind: SettingKind) -> bool
     ensures { result ≡ list_any (is_kind kind) settings.now }
 {
-    settings
-        .iter()
-        .any(|s| kind_number(kind) == kind_number(s.kind))
+    for setting in settings {
+        if kind_number(kind) == kind_number(setting.kind) {
+            return true;
+        }
+    }
+    false
 }
 
 // Whether there is an output.
 fn has_output(defined: &[Defined]) -> bool
     ensures { result ≡ has_output defined.now }
 {
-    defined.iter().any(|d| d.is_output)
+    for line in defined {
+        if line.is_output {
+            return true;
+        }
+    }
+    false
 }
 
 /// The first need that no statement fills.

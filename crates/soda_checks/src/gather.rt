@@ -1,5 +1,5 @@
 ghost use Rattle.std.specs.Prelude.{◌≡◌, ◌++◌, ◌∷◌, [], IfOk, OnOk, map, true, false};
-ghost use Rattle.soda_checks.specs.Outline.{casts_in, defined_alone, empty, input_alone, joined, outline_in, outline_of, param_alone, setting_alone, uses_in};
+ghost use Rattle.soda_checks.specs.Outline.{casts_in, defined_alone, input_alone, joined, outline_in, outline_of, param_alone, setting_alone, uses_in};
 ghost use Rattle.soda_checks.specs.declared.outline.Site.TheVariants.{Size as SiteSize};
 ghost use Rattle.soda_formula.specs.Tree.{term_of};
 ghost use Rattle.soda_formula.specs.Statements.{plain_line, plain_statement};
@@ -198,25 +198,6 @@ fn add_statement(
     }
 }
 
-// Nothing.
-fn empty(alloc: Global) -> Outline
-    ensures { result ≡ empty }
-{
-    Outline {
-        settings: Items::new(alloc),
-        bursts: Items::new(alloc),
-        unrolls: Items::new(alloc),
-        iterates: Items::new(alloc),
-        preserves: Items::new(alloc),
-        types: Items::new(alloc),
-        declared: Items::new(alloc),
-        params: Items::new(alloc),
-        inputs: Items::new(alloc),
-        defined: Items::new(alloc),
-        sites: Items::new(alloc),
-    }
-}
-
 // Adds statements.
 fn add_statements(
     alloc: Global,
@@ -235,7 +216,19 @@ fn add_statements(
 pub fn make_outline(alloc: Global, statements: &[Statement]) -> Result<Outline, NoMemory>
     ensures { IfOk result (λ outline. outline ≡ outline_of (map plain_statement statements.now)) }
 {
-    let mut outline = empty(alloc);
+    let mut outline = Outline {
+        settings: Items::new(alloc),
+        bursts: Items::new(alloc),
+        unrolls: Items::new(alloc),
+        iterates: Items::new(alloc),
+        preserves: Items::new(alloc),
+        types: Items::new(alloc),
+        declared: Items::new(alloc),
+        params: Items::new(alloc),
+        inputs: Items::new(alloc),
+        defined: Items::new(alloc),
+        sites: Items::new(alloc),
+    };
     match add_statements(alloc, &mut outline, statements) {
         Ok(()) => Ok(outline),
         Err(error) => {

@@ -1,4 +1,4 @@
-ghost use Rattle.std.specs.Prelude.{◌≡◌, [], ◌++◌, map, take, IfOk, OnOk};
+ghost use Rattle.std.specs.Prelude.{◌≡◌, ◌++◌, map, take, IfOk, OnOk};
 ghost use Rattle.std.specs.List.{list_any};
 ghost use Rattle.soda_checks.specs.Names.{names_of};
 ghost use Rattle.soda_checks.specs.Outline.{is_one_of};
@@ -20,21 +20,6 @@ pub struct Names<'a> {
     pub defined: NameTable<'a>,
     /// The names of the params.
     pub params: NameTable<'a>,
-}
-
-// No names.
-fn no_names<'a>(alloc: Global) -> Names<'a>
-    ensures declared { result.declared ≡ [] }
-    ensures inputs { result.inputs ≡ [] }
-    ensures defined { result.defined ≡ [] }
-    ensures params { result.params ≡ [] }
-{
-    Names {
-        declared: NameTable::new(alloc),
-        inputs: NameTable::new(alloc),
-        defined: NameTable::new(alloc),
-        params: NameTable::new(alloc),
-    }
 }
 
 // Adds the texts of words.
@@ -94,7 +79,12 @@ fn add_names<'a>(names: &mut Names<'a>, outline: &'a Outline) -> Result<(), NoMe
 pub fn make_names<'a>(alloc: Global, outline: &'a Outline) -> Result<Names<'a>, NoMemory>
     ensures { IfOk result (λ names. names ≡ names_of outline.now) }
 {
-    let mut names = no_names(alloc);
+    let mut names = Names {
+        declared: NameTable::new(alloc),
+        inputs: NameTable::new(alloc),
+        defined: NameTable::new(alloc),
+        params: NameTable::new(alloc),
+    };
     match add_names(&mut names, outline) {
         Ok(()) => Ok(names),
         Err(error) => {

@@ -1,8 +1,8 @@
-ghost use Rattle.std.specs.Prelude.{◌≡◌, option_map, find, slice_get};
+ghost use Rattle.std.specs.Prelude.{◌≡◌, option_map, find};
 ghost use Rattle.std.specs.Option.{option_copied};
 ghost use Rattle.soda_checks.specs.Names.{names_of};
 ghost use Rattle.soda_checks.specs.Outline.{is_same};
-ghost use Rattle.soda_checks.specs.Conditions.{are_below, first_tile, has_wrong_dims, has_wrong_tile, is_same_extent, is_same_tile, is_tensor, is_tile, is_wrong_site, is_wrong_value, param_use, site_line, wrong_dims, wrong_tile};
+ghost use Rattle.soda_checks.specs.Conditions.{are_below, first_tile, has_wrong_dims, has_wrong_tile, is_same_extent, is_same_tile, is_tensor, is_tile, is_wrong_site, param_use, site_line, wrong_dims, wrong_tile};
 
 use crate::conditions::site_line;
 use crate::names::is_listed;
@@ -140,16 +140,6 @@ fn wrong_tile_at(first: &[Extent], inputs: &[InputLine]) -> Option<u64>
     None
 }
 
-// The line of the name of the first input.
-fn first_line(inputs: &[InputLine]) -> Option<u64>
-    ensures { result ≡ option_map (λ i. i.name.line) (slice_get inputs.now 0) }
-{
-    match inputs {
-        [] => None,
-        [input, ..] => Some(input.name.line),
-    }
-}
-
 /// The line of the name of the first input whose tile is wrong, or of the first input where none has a
 /// tile.
 pub fn wrong_tile(outline: &Outline) -> Option<u64>
@@ -158,7 +148,10 @@ pub fn wrong_tile(outline: &Outline) -> Option<u64>
     let inputs = outline.inputs.as_slice();
     match first_tile(inputs) {
         Some(tile) => wrong_tile_at(tile.as_slice(), inputs),
-        None => first_line(inputs),
+        None => match inputs {
+            [] => None,
+            [input, ..] => Some(input.name.line),
+        },
     }
 }
 
@@ -186,17 +179,6 @@ pub fn param_of<'a>(outline: &'a Outline, names: &Names, word: &Word) -> Option<
     }
 }
 
-// Whether the name is no param with as many sizes as indexes, each index below its size.
-fn is_wrong_value(outline: &Outline, names: &Names, word: &Word, indexes: &[u64]) -> bool
-    requires { names.now ≡ names_of outline.now }
-    ensures { result ≡ is_wrong_value outline.now.params word.now indexes.now }
-{
-    match param_of(outline, names, word) {
-        Some(param) => !are_below(indexes, param.sizes.as_slice()),
-        None => true,
-    }
-}
-
 // Whether it is a size of 0, a name with offsets that is no tensor, or one without that is no param
 // with such indexes.
 fn is_wrong_site(outline: &Outline, names: &Names, site: &Site) -> bool
@@ -207,9 +189,10 @@ fn is_wrong_site(outline: &Outline, names: &Names, site: &Site) -> bool
         Site::Size(size) => size.value == 0,
         Site::Left { .. } => false,
         Site::Cell { name, .. } => !is_tensor(outline, names, name),
-        Site::Value { name, indexes } => {
-            is_wrong_value(outline, names, name, indexes.as_slice())
-        }
+        Site::Value { name, indexes } => match param_of(outline, names, name) {
+            Some(param) => !are_below(indexes.as_slice(), param.sizes.as_slice()),
+            None => true,
+        },
     }
 }
 

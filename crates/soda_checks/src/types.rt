@@ -1,5 +1,5 @@
 ghost use Rattle.std.specs.Prelude.{◌≡◌, true, false, option_map, Option, List, ℕ, ◌≤◌, ◌^◌, pos};
-ghost use Rattle.soda_checks.specs.Types.{is_float, type_behind, type_of, width_of};
+ghost use Rattle.soda_checks.specs.Types.{is_float, type_of, width_of};
 
 use soda_words::{Ty, behind, number};
 
@@ -28,38 +28,20 @@ fn width_of(least: u64, digits: &[u8]) -> Option<u64>
     }
 }
 
-// The signed type of a word with these digits behind `int`.
-fn signed_type(digits: &[u8]) -> Option<Ty>
-    ensures { result ≡ type_behind true 2 (Some digits.now) }
-{
-    match width_of(2, digits) {
-        Some(width) => Ty::new(true, width as u8),
-        None => None,
-    }
-}
-
-// The unsigned type of a word with these digits behind `uint`.
-fn unsigned_type(digits: &[u8]) -> Option<Ty>
-    ensures { result ≡ type_behind false 1 (Some digits.now) }
-{
-    match width_of(1, digits) {
-        Some(width) => Ty::new(false, width as u8),
-        None => None,
-    }
-}
-
 /// The integer type that a word stands for: `int` and a width from 2 to 64, or `uint` and one from 1
 /// to 64, with no leading zero; None for any other word.
 pub fn type_of(word: &[u8]) -> Option<Ty>
     ensures { result ≡ type_of word.now }
 {
     if let Some(digits) = behind(b"int", word) {
-        if let Some(ty) = signed_type(digits) {
-            return Some(ty);
+        if let Some(width) = width_of(2, digits) {
+            return Ty::new(true, width as u8);
         }
     }
-    match behind(b"uint", word) {
-        Some(digits) => unsigned_type(digits),
-        None => None,
+    if let Some(digits) = behind(b"uint", word) {
+        if let Some(width) = width_of(1, digits) {
+            return Ty::new(false, width as u8);
+        }
     }
+    None
 }

@@ -8,16 +8,13 @@ use crate::size::Size;
 use crate::{NoMemory, Written};
 use soda_words::Placed;
 use std::alloc::Global;
-use thiserror::Error;
 
 /// Why no formula was read.
-#[derive(Clone, Copy, Debug, PartialEq, Eq, Error)]
+#[derive(Clone, Copy)]
 pub enum FormulaFail {
     /// The token of this number is wrong, or the tokens end before it.
-    #[error("token {0} is wrong")]
     Wrong(usize),
     /// Want of memory.
-    #[error("out of memory")]
     Memory,
 }
 

@@ -3,7 +3,7 @@ use soda_words::Word;
 use sqlite_items::Items;
 
 /// A size of a param, with its line.
-#[derive(Clone, Copy, Debug, PartialEq, Eq)]
+#[derive(Clone, Copy)]
 pub struct Size {
     /// The number of the line, from 1.
     pub line: u64,
@@ -12,7 +12,7 @@ pub struct Size {
 }
 
 /// An item of a tile.
-#[derive(Clone, Copy, Debug, PartialEq, Eq)]
+#[derive(Clone, Copy)]
 pub enum Extent {
     /// A fixed extent, in cells.
     Fixed(u64),

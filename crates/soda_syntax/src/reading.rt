@@ -11,17 +11,14 @@ use crate::stop::Stop;
 use soda_formula::Statement;
 use soda_words::{Placed, end_line, tokens};
 use std::alloc::{AllocFailed, Global};
-use thiserror::Error;
 
 /// Why no statements were read.
-#[derive(Clone, Copy, Debug, PartialEq, Eq, Error)]
+#[derive(Clone, Copy)]
 pub enum SyntaxFail {
     /// The text is not of the grammar, or a formula is too large: the line of the first wrong token,
     /// or that of the end of a text that ends too early.
-    #[error("line {0}: syntax")]
     Refused(u64),
     /// Want of memory.
-    #[error("out of memory")]
     Memory,
 }
 

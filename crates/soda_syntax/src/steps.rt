@@ -1,5 +1,5 @@
 ghost use Rattle.std.specs.Prelude.{◌≡◌, IfOk};
-ghost use Rattle.soda_syntax.specs.machine.Steps.{headed, declaring, begun, after_nothing, after_burst, after_unroll, after_heading, edge_value, named_value, number_value, after_colon, typed, at_type, at_bank, after_dram, after_bank_number, after_type, declared_as, at_name, after_sizes, more_sizes, at_size, after_size, untiled, tiled, after_input, more_items, at_item, after_item, at_offsets, more_offsets, at_component, at_magnitude, after_component, at_equals, step, finish};
+ghost use Rattle.soda_syntax.specs.machine.Steps.{headed, declaring, begun, after_nothing, after_burst, after_unroll, after_heading, edge_value, named_value, after_colon, typed, at_type, at_bank, after_dram, after_bank_number, after_type, at_name, after_sizes, at_size, after_size, untiled, after_input, at_item, after_item, at_offsets, more_offsets, at_component, at_magnitude, after_component, at_equals, step, finish};
 
 use crate::NoMemory;
 use crate::stage::{Heading, LeftSide, Next, Role, Setting, Stage, TileSoFar};
@@ -139,32 +139,26 @@ fn named_value(alloc: Global, setting: Setting, line: u64, text: &[u8]) -> Resul
     })
 }
 
-fn number_value(setting: Setting, line: u64, number: u64) -> Next
-    ensures { result ≡ number_value setting line number }
-{
-    match setting {
-        Setting::Width => Next::Goes(Stage::Finished(Statement::BurstWidth {
-            line,
-            width: number,
-        })),
-        Setting::Factor => Next::Goes(Stage::Finished(Statement::UnrollFactor {
-            line,
-            factor: number,
-        })),
-        Setting::Times => Next::Goes(Stage::Finished(Statement::Iterate {
-            line,
-            times: number,
-        })),
-        _ => Next::Wrong,
-    }
-}
-
 fn after_colon(alloc: Global, heading: Heading, token: &Token) -> Result<Next, NoMemory>
     ensures { IfOk result (λ next. next ≡ after_colon heading token.now) }
 {
     match token {
         Token::Name(text) => named_value(alloc, heading.setting, heading.line, text.as_slice()),
-        Token::Number(number) => Ok(number_value(heading.setting, heading.line, *number)),
+        Token::Number(number) => Ok(match heading.setting {
+            Setting::Width => Next::Goes(Stage::Finished(Statement::BurstWidth {
+                line: heading.line,
+                width: *number,
+            })),
+            Setting::Factor => Next::Goes(Stage::Finished(Statement::UnrollFactor {
+                line: heading.line,
+                factor: *number,
+            })),
+            Setting::Times => Next::Goes(Stage::Finished(Statement::Iterate {
+                line: heading.line,
+                times: *number,
+            })),
+            _ => Next::Wrong,
+        }),
         _ => Ok(Next::Wrong),
     }
 }
@@ -235,36 +229,30 @@ fn after_type(role: Role, ty: Word, token: &Token) -> Next
     }
 }
 
-fn declared_as(alloc: Global, role: Role, ty: Word, name: Word) -> Stage
-    ensures { result ≡ declared_as role ty name }
-{
-    match role {
-        Role::Parameter => Stage::Sizes(ParamLine {
-            ty,
-            name,
-            sizes: Items::new(alloc),
-        }),
-        Role::Source => Stage::TileOrEnd(TileSoFar {
-            ty,
-            name,
-            items: Items::new(alloc),
-        }),
-        Role::Middle | Role::Target => Stage::OffsetsOpen(LeftSide {
-            role,
-            ty,
-            name,
-            offsets: Items::new(alloc),
-        }),
-    }
-}
-
 fn at_name(alloc: Global, role: Role, ty: Word, line: u64, token: &Token) -> Result<Next, NoMemory>
     ensures { IfOk result (λ next. next ≡ at_name role ty line token.now) }
 {
     match token {
         Token::Name(text) => {
             let name = word(alloc, line, text.as_slice())?;
-            Ok(Next::Goes(declared_as(alloc, role, ty, name)))
+            Ok(Next::Goes(match role {
+                Role::Parameter => Stage::Sizes(ParamLine {
+                    ty,
+                    name,
+                    sizes: Items::new(alloc),
+                }),
+                Role::Source => Stage::TileOrEnd(TileSoFar {
+                    ty,
+                    name,
+                    items: Items::new(alloc),
+                }),
+                Role::Middle | Role::Target => Stage::OffsetsOpen(LeftSide {
+                    role,
+                    ty,
+                    name,
+                    offsets: Items::new(alloc),
+                }),
+            }))
         }
         _ => {
             drop(ty);
@@ -288,19 +276,12 @@ fn after_sizes(param: ParamLine, token: &Token) -> Next
     }
 }
 
-fn more_sizes(mut param: ParamLine, line: u64, value: u64) -> Result<ParamLine, NoMemory>
-    ensures { IfOk result (λ param'. param' ≡ more_sizes param line value) }
-{
-    param.sizes.push(Size { line, value })?;
-    Ok(param)
-}
-
-fn at_size(param: ParamLine, line: u64, token: &Token) -> Result<Next, NoMemory>
+fn at_size(mut param: ParamLine, line: u64, token: &Token) -> Result<Next, NoMemory>
     ensures { IfOk result (λ next. next ≡ at_size param line token.now) }
 {
     match token {
         Token::Number(size) => {
-            let param = more_sizes(param, line, *size)?;
+            param.sizes.push(Size { line, value: *size })?;
             Ok(Next::Goes(Stage::SizeClose(param)))
         }
         _ => {
@@ -332,16 +313,6 @@ fn untiled(input: TileSoFar) -> Statement
     })
 }
 
-fn tiled(input: TileSoFar) -> Statement
-    ensures { result ≡ tiled input }
-{
-    Statement::Input(InputLine {
-        ty: input.ty,
-        name: input.name,
-        tile: Some(input.items),
-    })
-}
-
 fn after_input(input: TileSoFar, token: &Token) -> Next
     ensures { result ≡ after_input input token.now }
 {
@@ -351,14 +322,7 @@ fn after_input(input: TileSoFar, token: &Token) -> Next
     }
 }
 
-fn more_items(mut input: TileSoFar, item: Extent) -> Result<TileSoFar, NoMemory>
-    ensures { IfOk result (λ input'. input' ≡ more_items input item) }
-{
-    input.items.push(item)?;
-    Ok(input)
-}
-
-fn at_item(input: TileSoFar, token: &Token) -> Result<Next, NoMemory>
+fn at_item(mut input: TileSoFar, token: &Token) -> Result<Next, NoMemory>
     ensures { IfOk result (λ next. next ≡ at_item input token.now) }
 {
     let item = match token {
@@ -369,7 +333,7 @@ fn at_item(input: TileSoFar, token: &Token) -> Result<Next, NoMemory>
             return Ok(Next::Wrong);
         }
     };
-    let input = more_items(input, item)?;
+    input.items.push(item)?;
     Ok(Next::Goes(Stage::TileMore(input)))
 }
 
@@ -378,7 +342,13 @@ fn after_item(input: TileSoFar, token: &Token) -> Next
 {
     match token {
         Token::Sign(Symbol::Comma) => Next::Goes(Stage::TileItem(input)),
-        Token::Sign(Symbol::CloseRound) => Next::Goes(Stage::Finished(tiled(input))),
+        Token::Sign(Symbol::CloseRound) => {
+            Next::Goes(Stage::Finished(Statement::Input(InputLine {
+                ty: input.ty,
+                name: input.name,
+                tile: Some(input.items),
+            })))
+        }
         _ => {
             drop(input);
             Next::Wrong
@@ -468,35 +438,35 @@ pub fn step(alloc: Global, stage: Stage, placed: &Placed) -> Result<Next, NoMemo
 {
     let line = placed.line;
     let token = &placed.token;
-    Ok(match stage {
-        Stage::Start => after_nothing(line, token),
-        Stage::WidthWord(first) => after_burst(first, token),
-        Stage::FactorWord(first) => after_unroll(first, token),
-        Stage::SettingColon(heading) => after_heading(heading, token),
-        Stage::SettingValue(heading) => after_colon(alloc, heading, token)?,
-        Stage::Finished(statement) => Next::Whole(statement),
-        Stage::BankOrType(role) => at_bank(alloc, role, line, token)?,
-        Stage::BankNumber(role) => after_dram(role, token),
-        Stage::BankMore(role) => after_bank_number(alloc, role, line, token)?,
-        Stage::TypeWord(role) => at_type(alloc, role, line, token)?,
-        Stage::RoleColon(role, ty) => after_type(role, ty, token),
-        Stage::RoleName(role, ty) => at_name(alloc, role, ty, line, token)?,
-        Stage::Sizes(param) => after_sizes(param, token),
-        Stage::SizeNumber(param) => at_size(param, line, token)?,
-        Stage::SizeClose(param) => after_size(param, token),
-        Stage::TileOrEnd(input) => after_input(input, token),
-        Stage::TileItem(input) => at_item(input, token)?,
-        Stage::TileMore(input) => after_item(input, token),
-        Stage::OffsetsOpen(left) => at_offsets(left, token),
-        Stage::Component(left) => at_component(left, token)?,
-        Stage::Magnitude(left) => at_magnitude(left, token)?,
-        Stage::ComponentMore(left) => after_component(left, token),
-        Stage::Equals(left) => at_equals(left, token),
+    match stage {
+        Stage::Start => Ok(after_nothing(line, token)),
+        Stage::WidthWord(first) => Ok(after_burst(first, token)),
+        Stage::FactorWord(first) => Ok(after_unroll(first, token)),
+        Stage::SettingColon(heading) => Ok(after_heading(heading, token)),
+        Stage::SettingValue(heading) => after_colon(alloc, heading, token),
+        Stage::Finished(statement) => Ok(Next::Whole(statement)),
+        Stage::BankOrType(role) => at_bank(alloc, role, line, token),
+        Stage::BankNumber(role) => Ok(after_dram(role, token)),
+        Stage::BankMore(role) => after_bank_number(alloc, role, line, token),
+        Stage::TypeWord(role) => at_type(alloc, role, line, token),
+        Stage::RoleColon(role, ty) => Ok(after_type(role, ty, token)),
+        Stage::RoleName(role, ty) => at_name(alloc, role, ty, line, token),
+        Stage::Sizes(param) => Ok(after_sizes(param, token)),
+        Stage::SizeNumber(param) => at_size(param, line, token),
+        Stage::SizeClose(param) => Ok(after_size(param, token)),
+        Stage::TileOrEnd(input) => Ok(after_input(input, token)),
+        Stage::TileItem(input) => at_item(input, token),
+        Stage::TileMore(input) => Ok(after_item(input, token)),
+        Stage::OffsetsOpen(left) => Ok(at_offsets(left, token)),
+        Stage::Component(left) => at_component(left, token),
+        Stage::Magnitude(left) => at_magnitude(left, token),
+        Stage::ComponentMore(left) => Ok(after_component(left, token)),
+        Stage::Equals(left) => Ok(at_equals(left, token)),
         Stage::Formula(left) => {
             drop(left);
-            Next::Wrong
+            Ok(Next::Wrong)
         }
-    })
+    }
 }
 
 /// The statement that may end here, but for one with a formula.
