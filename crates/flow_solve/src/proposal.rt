@@ -103,17 +103,6 @@ fn send_width(
     Ok(())
 }
 
-// 0 for each read.
-fn no_amounts(alloc: Global, net: &Net) -> Result<Vec<u32>, NoMemory>
-    ensures { IfOk result (λ amounts. length amounts.items ≡ length net.now.reads) }
-{
-    let mut amounts = Vec::new(alloc);
-    for _ in net.reads() {
-        amounts.push(0)?;
-    }
-    Ok(amounts)
-}
-
 // The amounts after the width of each tensor went along longest walks from its first node to its
 // second, in what the amounts so far leave.
 pub(crate) fn proposal(alloc: Global, net: &Net) -> Result<Certificate, NoMemory>
@@ -122,8 +111,9 @@ pub(crate) fn proposal(alloc: Global, net: &Net) -> Result<Certificate, NoMemory
 {
     let steps = ordered(alloc, net)?;
     let tensors = net.weights().len() as u32;
-    let mut hold = no_amounts(alloc, net)?;
-    let mut need = no_amounts(alloc, net)?;
+    let reads = net.reads().len();
+    let mut hold = vec![in alloc; 0; reads]?;
+    let mut need = vec![in alloc; 0; reads]?;
     for (tensor, width) in net.weights().iter().enumerate() {
         send_width(
             alloc,

@@ -115,9 +115,6 @@ pub(crate) fn next_round(
 pub(crate) fn no_arcs(alloc: Global, nodes: u32) -> Result<Vec<Option<u32>>, NoMemory>
     ensures { IfOk result (λ arcs. arcs.items ≡ replicate nodes None) }
 {
-    let mut arcs = Vec::new(alloc);
-    for _ in 0..nodes {
-        arcs.push(None)?;
-    }
+    let arcs = vec![in alloc; None; nodes as usize]?;
     Ok(arcs)
 }

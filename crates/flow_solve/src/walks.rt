@@ -45,9 +45,6 @@ pub fn longest(alloc: Global, nodes: u32, arcs: &[Arc]) -> Result<Longest, NoMem
 fn zeros(alloc: Global, nodes: u32) -> Result<Vec<i64>, NoMemory>
     ensures { IfOk result (λ lengths. lengths.items ≡ replicate nodes (pos 0)) }
 {
-    let mut lengths = Vec::new(alloc);
-    for _ in 0..nodes {
-        lengths.push(0)?;
-    }
+    let lengths = vec![in alloc; 0; nodes as usize]?;
     Ok(lengths)
 }

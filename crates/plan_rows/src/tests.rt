@@ -1,5 +1,9 @@
+ghost use Rattle.std.specs.Prelude.{◌<◌, ◌↔◌, IsTrue};
+ghost use Rattle.std.specs.List.{All};
+ghost use Rattle.delay_net.specs.Limits.{delay_end};
+
 use crate::net_if_one;
-use delay_net::{Net, Read};
+use delay_net::{DELAY_END, Net, Read};
 use std::alloc::{AllocError, Global};
 use std::process::Abort;
 
@@ -47,4 +51,11 @@ fn net_of(
     let reads = reads_of(alloc, rows)?;
     let found = net_if_one(alloc, weights, &reads)?;
     Ok(found.expect(rt, "a net"))
+}
+
+// Whether numbers are all below the end of delays, which is that of ages.
+fn are_below_end(numbers: &[u64]) -> bool
+    ensures { IsTrue result ↔ All (λ number. number < delay_end) numbers.now }
+{
+    numbers.iter().all(|number| *number < DELAY_END)
 }

@@ -1,5 +1,5 @@
 -- What one call leaves of the store in memory.
-use Rattle.std.proofs.Common.{◌≡◌, ◌<◌, ◌≤◌, ℕ, ◌+◌, Bool, List, [], ◌∷◌, ◌++◌, length, get_or, take, drop, Option, Some, Ok, true, false, refl, sym, ap, subst, ◌∙◌, arith, set, unwrap_or, string_bytes}
+use Rattle.std.proofs.Common.{◌≡◌, ◌<◌, ◌≤◌, ℕ, ◌+◌, Bool, List, [], ◌∷◌, ◌++◌, length, get_or, take, drop, Option, Some, Ok, Err, true, false, refl, sym, ap, subst, ◌∙◌, arith, set, unwrap_or, string_bytes}
 use Rattle.std.specs.Option.{is_some}
 use Rattle.std.specs.BTreeMap.{BTreeMap}
 use Rattle.std.specs.declared.string.String.{String}
@@ -7,10 +7,11 @@ use Rattle.std.specs.declared.vec.Vec.{Vec}
 use Rattle.std.specs.declared.alloc.Global.{Global}
 use Rattle.std.proofs.lemmas.Bool.{cases_eq, false≢true}
 use Rattle.std.proofs.Common.{inl, inr, length-append}
-use Rattle.std.proofs.lemmas.List.{take_all, length-set, length-take}
+use Rattle.std.proofs.lemmas.List.{append-nil, take_all, length-set, length-take}
 use Rattle.soda_io.specs.declared.mem_id.MemId.{MemId}
 use Rattle.soda_io.specs.declared.call.FileCall.{FileCall}
 use Rattle.soda_io.specs.declared.call.FileCall.TheVariants.{Open, Create, Read, Write}
+use Rattle.soda_io.specs.declared.error.IoErr.TheVariants.{Memory}
 use Rattle.soda_io.specs.Held.{held}
 use Rattle.soda_io.specs.Ids.{field_at, name_at, opened_at, place_at}
 use Rattle.soda_io.specs.Machine.Given.{AllHeld}
@@ -31,6 +32,48 @@ moved P m n is js a b same_files same_ids same_calls holds =
     let I : List MemId → Type 0 = λ x. P (length x) (store_of n x a) in
     let C : List FileCall → Type 0 = λ x. P (length js) (store_of n js x) in
     subst C same_calls (subst I same_ids (subst F same_files holds))
+
+-- where memory was refused, the store is as before
+pub opens_memory : (given : ℕ) (t : Store) (name : List ℕ) → Opens given t t name (Err Memory)
+opens_memory given t name = record {
+  ids = record { name = λ k lt. refl; opened = λ k lt. refl };
+  bytes = λ n. refl;
+  places = λ k lt. refl;
+  calls = sym (append-nil t.calls);
+  fresh = tt;
+  missing = λ none. refl;
+}
+
+pub creates_memory : (given : ℕ) (t : Store) (name : List ℕ) → Creates given t t name (Err Memory)
+creates_memory given t name = record {
+  ids = record { name = λ k lt. refl; opened = λ k lt. refl };
+  places = λ k lt. refl;
+  calls = sym (append-nil t.calls);
+  err = λ n. refl;
+  emptied = tt;
+  fresh = tt;
+}
+
+pub reads_memory : (given : ℕ) (t : Store) (id asked : ℕ) (buf : List ℕ) → Reads given t t id asked buf (Err Memory)
+reads_memory given t id asked buf = record {
+  ids = record { name = λ k lt. refl; opened = λ k lt. refl };
+  bytes = λ n. refl;
+  others = λ k lt ne. refl;
+  calls = sym (append-nil t.calls);
+  err = refl;
+  place = tt;
+  got = tt;
+  end = tt;
+}
+
+pub writes_memory : (given : ℕ) (t : Store) (id : ℕ) (bytes : List ℕ) (count : ℕ) → Writes given t t id bytes count (Err Memory)
+writes_memory given t id bytes count = record {
+  ids = record { name = λ k lt. refl; opened = λ k lt. refl };
+  places = λ k lt. refl;
+  calls = sym (append-nil t.calls);
+  err = λ n. refl;
+  appended = tt;
+}
 
 -- one more id
 module _ (is js : List MemId) (i : MemId) (pushed : js ≡ is ++ i ∷ []) where

@@ -1,44 +1,54 @@
 ghost use Rattle.std.specs.Prelude.{◌≡◌, IfOk};
 
-use super::{BLUR, FAR, Reading, net_of};
-use delay_net::{Amounts, DELAY_END, Flow, check, is_balanced, meets, storage, storage_of};
+use super::{BLUR, FAR, Reading, are_below_end, net_of};
+use delay_net::{Amounts, Flow, Net, check, is_balanced, meets, storage, storage_of};
 use std::alloc::{AllocError, Global};
 use std::process::Abort;
 use std::test::Fail;
 
 // Widths, reads and delays, the storage of each tensor, and that of all. There are none where the delays don't
 // meet the windows.
-type StorageRow<'a> = (&'a [u8], &'a [Reading], &'a [u64], &'a [u64], u128);
+type StorageRow = (
+    &'static [u8],
+    &'static [Reading],
+    &'static [u64],
+    &'static [u64],
+    u128,
+);
 
-fn expect_storage(rt: &impl Abort, alloc: Global, row: StorageRow) -> Result<(), Fail> {
-    let (weights, rows, delays, storages, total) = row;
-    let net = net_of(rt, alloc, weights, rows)?;
-    assert_eq!(rt; net.weights(), weights);
-    assert_eq!(rt; net.reads().len(), rows.len());
+const STORAGES: &[StorageRow] = &[
+    (&[16, 16, 16], &BLUR, &[0, 4000, 4002], &[4000, 2, 0], 64032),
+    (&[8, 32, 32], &FAR, &[0, 1000, 1000], &[1000, 0, 0], 8000),
+    (&[8, 32, 32], &FAR, &[0, 0, 1000], &[0, 1000, 0], 32000),
+    (&[8, 32, 32], &FAR, &[0, 1000, 999], &[], 0),
+];
+
+fn expect_storages(rt: &impl Abort, net: &Net, delays: &[u64], storages: &[u64], total: u128) {
     assert!(rt; delays.len() == net.weights().len());
-    assert!(rt; delays.iter().all(|delay| *delay < DELAY_END));
-    if !meets(&net, delays) {
+    assert!(rt; are_below_end(delays));
+    if !meets(net, delays) {
         assert!(rt; storages.is_empty());
-        return Ok(());
+        return;
     }
     assert!(rt; storages.len() == delays.len());
     for tensor in 0..delays.len() {
-        assert_eq!(rt; storage_of(&net, delays, tensor as u32), storages[tensor]);
+        assert!(rt; storage_of(net, delays, tensor as u32) == storages[tensor]);
     }
-    assert_eq!(rt; storage(&net, delays), total);
+    assert!(rt; storage(net, delays) == total);
+}
+
+fn expect_storage(rt: &impl Abort, alloc: Global, row: StorageRow) -> Result<(), AllocError> {
+    let (weights, rows, delays, storages, total) = row;
+    let net = net_of(rt, alloc, weights, rows)?;
+    expect_storages(rt, &net, delays, storages, total);
+    drop(net);
     Ok(())
 }
 
 #[test]
 fn storages(rt: HostRuntime) -> Result<(), Fail> {
-    let rows: [StorageRow; 4] = [
-        (&[16, 16, 16], &BLUR, &[0, 4000, 4002], &[4000, 2, 0], 64032),
-        (&[8, 32, 32], &FAR, &[0, 1000, 1000], &[1000, 0, 0], 8000),
-        (&[8, 32, 32], &FAR, &[0, 0, 1000], &[0, 1000, 0], 32000),
-        (&[8, 32, 32], &FAR, &[0, 1000, 999], &[], 0),
-    ];
-    for row in rows {
-        expect_storage(&rt, rt.alloc(), row)?;
+    for row in STORAGES {
+        expect_storage(&rt, rt.alloc(), *row)?;
     }
     Ok(())
 }
@@ -55,83 +65,107 @@ fn flow_of(alloc: Global, hold: &[u32], need: &[u32]) -> Result<Flow, AllocError
 }
 
 // Widths, reads and delays, holds and needs, whether these are balanced, and whether they fit.
-type CertificateRow<'a> = (
-    &'a [u8],
-    &'a [Reading],
-    &'a [u64],
-    &'a [u32],
-    &'a [u32],
+type CertificateRow = (
+    &'static [u8],
+    &'static [Reading],
+    &'static [u64],
+    &'static [u32],
+    &'static [u32],
     bool,
     bool,
 );
 
-fn expect_certificate(rt: &impl Abort, alloc: Global, row: CertificateRow) -> Result<(), Fail> {
+const LATE: &[u64] = &[0, 1000, 1000];
+
+const CERTIFICATES: &[CertificateRow] = &[
+    (
+        &[16, 16, 16],
+        &BLUR,
+        &[0, 4000, 4002],
+        &[16, 0, 0, 16, 0, 0],
+        &[0, 0, 16, 0, 0, 16],
+        true,
+        true,
+    ),
+    (
+        &[8, 32, 32],
+        &FAR,
+        LATE,
+        &[8, 0, 32],
+        &[0, 8, 24],
+        true,
+        true,
+    ),
+    (
+        &[8, 32, 32],
+        &FAR,
+        &[0, 0, 1000],
+        &[8, 0, 32],
+        &[0, 8, 24],
+        true,
+        false,
+    ),
+    (
+        &[8, 32, 32],
+        &FAR,
+        LATE,
+        &[8, 0, 31],
+        &[0, 8, 24],
+        false,
+        false,
+    ),
+    (
+        &[8, 32, 32],
+        &FAR,
+        LATE,
+        &[8, 0, 32],
+        &[1, 8, 24],
+        false,
+        false,
+    ),
+];
+
+// Whether the holds and needs are balanced, and whether they fit.
+fn told(
+    rt: &impl Abort,
+    alloc: Global,
+    net: &Net,
+    delays: &[u64],
+    hold: &[u32],
+    need: &[u32],
+) -> Result<(bool, bool), AllocError> {
+    assert!(rt; delays.len() == net.weights().len());
+    assert!(rt; are_below_end(delays));
+    assert!(rt; hold.len() == net.reads().len() && need.len() == net.reads().len());
+    assert!(rt; meets(net, delays));
+    let balanced = is_balanced(net, hold, need);
+    let flow = flow_of(alloc, hold, need)?;
+    let fits = check(net, delays, &flow);
+    assert!(rt; flow.need.as_slice() == need);
+    let Flow { hold, need } = flow;
+    drop(need);
+    drop(hold.into_vec());
+    Ok((balanced, fits))
+}
+
+fn expect_certificate(
+    rt: &impl Abort,
+    alloc: Global,
+    row: CertificateRow,
+) -> Result<(), AllocError> {
     let (weights, rows, delays, hold, need, balanced, fits) = row;
     let net = net_of(rt, alloc, weights, rows)?;
-    assert!(rt; delays.len() == net.weights().len());
-    assert!(rt; delays.iter().all(|delay| *delay < DELAY_END));
-    assert!(rt; hold.len() == net.reads().len() && need.len() == net.reads().len());
-    assert!(rt; meets(&net, delays));
-    assert_eq!(rt; is_balanced(&net, hold, need), balanced);
-    let flow = flow_of(alloc, hold, need)?;
-    assert_eq!(rt; check(&net, delays, &flow), fits);
-    assert_eq!(rt; flow.need.as_slice(), need);
-    assert_eq!(rt; flow.hold.into_vec().as_slice(), hold);
+    let found = told(rt, alloc, &net, delays, hold, need);
+    drop(net);
+    let (is_balanced, does_fit) = found?;
+    assert!(rt; is_balanced == balanced && does_fit == fits);
     Ok(())
 }
 
 #[test]
 fn certificates(rt: HostRuntime) -> Result<(), Fail> {
-    let late: &[u64] = &[0, 1000, 1000];
-    let rows: [CertificateRow; 5] = [
-        (
-            &[16, 16, 16],
-            &BLUR,
-            &[0, 4000, 4002],
-            &[16, 0, 0, 16, 0, 0],
-            &[0, 0, 16, 0, 0, 16],
-            true,
-            true,
-        ),
-        (
-            &[8, 32, 32],
-            &FAR,
-            late,
-            &[8, 0, 32],
-            &[0, 8, 24],
-            true,
-            true,
-        ),
-        (
-            &[8, 32, 32],
-            &FAR,
-            &[0, 0, 1000],
-            &[8, 0, 32],
-            &[0, 8, 24],
-            true,
-            false,
-        ),
-        (
-            &[8, 32, 32],
-            &FAR,
-            late,
-            &[8, 0, 31],
-            &[0, 8, 24],
-            false,
-            false,
-        ),
-        (
-            &[8, 32, 32],
-            &FAR,
-            late,
-            &[8, 0, 32],
-            &[1, 8, 24],
-            false,
-            false,
-        ),
-    ];
-    for row in rows {
-        expect_certificate(&rt, rt.alloc(), row)?;
+    for row in CERTIFICATES {
+        expect_certificate(&rt, rt.alloc(), *row)?;
     }
     Ok(())
 }

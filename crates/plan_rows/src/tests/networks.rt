@@ -3,8 +3,8 @@ ghost use Rattle.net_ir.specs.CycleRun.{IsBetween};
 ghost use Rattle.net_ir.specs.Worked.{two_reads};
 
 use net_ir::{
-    Counts, CycleCount, Module, Network, Queue, can_step, capacity_decides, count_cycle, finished,
-    step, waits_for,
+    Counts, Module, Network, Queue, can_step, capacity_decides, count_cycle, finished, step,
+    waits_for,
 };
 use std::alloc::{AllocError, Global};
 use std::process::Abort;
@@ -88,45 +88,61 @@ fn told(alloc: Global, net: &Network, counts: &Counts) -> Result<Vec<(u64, u32, 
 }
 
 // The capacity of the reuse queue, an order of the modules, what is told of them at the end, and whether they are done.
-type Row<'a> = (u64, &'a [u32], &'a [(u64, u32, u32)], bool);
+type Row = (u64, &'static [u32], &'static [(u64, u32, u32)], bool);
 
-fn expect_end(rt: &impl Abort, alloc: Global, row: Row) -> Result<(), Fail> {
-    let (capacity, order, wanted, done) = row;
+const STUCK: &[(u64, u32, u32)] = &[(1, 1, 3), (5, 0, 2), (3, 1, 0), (3, 0, 2), (3, 0, 3)];
+
+const DONE: &[(u64, u32, u32)] = &[
+    (8, 0, 99),
+    (12, 0, 99),
+    (12, 0, 99),
+    (12, 0, 99),
+    (12, 0, 99),
+];
+
+// With a reuse queue of the gap every order of events ends finished; with one too small, every order ends stuck.
+const ENDS: &[Row] = &[
+    (1, &[0, 1, 2, 3, 4], STUCK, false),
+    (1, &[4, 3, 2, 1, 0], STUCK, false),
+    (1, &[1, 1, 1, 1, 2, 0, 4, 3], STUCK, false),
+    (1, &[2, 0, 3, 1, 4, 4, 0], STUCK, false),
+    (4, &[0, 1, 2, 3, 4], DONE, true),
+    (4, &[4, 3, 2, 1, 0], DONE, true),
+    (4, &[1, 1, 1, 1, 2, 0, 4, 3], DONE, true),
+];
+
+// What is told of the modules after many rounds, and whether they are done.
+fn end_of(
+    alloc: Global,
+    net: &Network,
+    order: &[u32],
+) -> Result<(Vec<(u64, u32, u32)>, bool), AllocError> {
+    let mut counts = Counts::start(alloc, net, 12)?;
+    rounds(net, &mut counts, order);
+    let done = finished(net, &counts);
+    let all = told(alloc, net, &counts);
+    drop(counts);
+    Ok((all?, done))
+}
+
+fn expect_end(rt: &impl Abort, alloc: Global, row: Row) -> Result<(), AllocError> {
+    let (capacity, order, wanted, wanted_done) = row;
     let net = two_reads(alloc, capacity)?;
-    assert_eq!(rt; net.modules().len(), 5);
-    assert_eq!(rt; net.queues().len(), 5);
-    let mut counts = Counts::start(alloc, &net, 12)?;
-    rounds(&net, &mut counts, order);
-    let all = told(alloc, &net, &counts)?;
-    assert_eq!(rt; all.as_slice(), wanted);
-    assert_eq!(rt; finished(&net, &counts), done);
+    assert!(rt; net.modules().len() == 5 && net.queues().len() == 5);
+    let end = end_of(alloc, &net, order);
+    drop(net);
+    let (all, done) = end?;
+    assert!(rt; done == wanted_done && all.as_slice() == wanted);
+    drop(all);
     Ok(())
 }
 
-// With a reuse queue of the gap every order of events ends finished; with one too small, every order ends stuck.
 #[test]
 fn runs_of_events(rt: HostRuntime) -> Result<(), Fail> {
-    let stuck: &[(u64, u32, u32)] = &[(1, 1, 3), (5, 0, 2), (3, 1, 0), (3, 0, 2), (3, 0, 3)];
-    let done: &[(u64, u32, u32)] = &[
-        (8, 0, 99),
-        (12, 0, 99),
-        (12, 0, 99),
-        (12, 0, 99),
-        (12, 0, 99),
-    ];
-    let rows: [Row; 7] = [
-        (1, &[0, 1, 2, 3, 4], stuck, false),
-        (1, &[4, 3, 2, 1, 0], stuck, false),
-        (1, &[1, 1, 1, 1, 2, 0, 4, 3], stuck, false),
-        (1, &[2, 0, 3, 1, 4, 4, 0], stuck, false),
-        (4, &[0, 1, 2, 3, 4], done, true),
-        (4, &[4, 3, 2, 1, 0], done, true),
-        (4, &[1, 1, 1, 1, 2, 0, 4, 3], done, true),
-    ];
-    for row in rows {
-        expect_end(&rt, rt.alloc(), row)?;
+    for row in ENDS {
+        expect_end(&rt, rt.alloc(), *row)?;
     }
-    assert_eq!(rt; Module::Sink { tensor: 1 }.age(), 0);
+    assert!(rt; Module::Sink { tensor: 1 }.age() == 0);
     Ok(())
 }
 
@@ -143,16 +159,25 @@ fn cycles_to_the_end(net: &Network, counts: &mut Counts, stalled: &[bool]) -> u3
     cycles
 }
 
+fn expect_cycles(rt: &impl Abort, alloc: Global, net: &Network) -> Result<(), AllocError>
+    requires { net.now ≡ two_reads 4 }
+{
+    let mut counts = Counts::start(alloc, net, 12)?;
+    let none = [false; 5];
+    let first = count_cycle(net, &mut counts, &none);
+    assert!(rt; first.fired == 4 && first.held == 1);
+    let second = count_cycle(net, &mut counts, &[false, true, false, false, false]);
+    assert!(rt; second.fired == 1 && second.held == 4);
+    assert!(rt; cycles_to_the_end(net, &mut counts, &none) == 11);
+    drop(counts);
+    Ok(())
+}
+
 #[test]
 fn cycles_are_counted(rt: HostRuntime) -> Result<(), Fail> {
     let net = two_reads(rt.alloc(), 4)?;
-    let mut counts = Counts::start(rt.alloc(), &net, 12)?;
-    let none = [false; 5];
-    let source = [false, true, false, false, false];
-    let CycleCount { fired, held } = count_cycle(&net, &mut counts, &none);
-    assert_eq!(rt; (fired, held), (4, 1));
-    let CycleCount { fired, held } = count_cycle(&net, &mut counts, &source);
-    assert_eq!(rt; (fired, held), (1, 4));
-    assert_eq!(rt; cycles_to_the_end(&net, &mut counts, &none), 11);
+    let ran = expect_cycles(&rt, rt.alloc(), &net);
+    drop(net);
+    ran?;
     Ok(())
 }

