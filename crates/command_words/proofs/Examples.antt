@@ -1,9 +1,8 @@
 -- What some command lines ask for, by computation.
-use Rattle.std.proofs.Common.{◌≡◌, ℕ, true, false, List, [], ◌∷◌, Option, None, Some, codes, refl}
+use Rattle.std.proofs.Common.{◌≡◌, true, false, [], ◌∷◌, None, Some, codes, refl}
 use Rattle.clap.proofs.OnLiterals.{clap_on_literals}
 use Rattle.clap.specs.Simple.{is_simple}
-use Rattle.clap.specs.Walk.{Text}
-use Rattle.command_words.specs.Command.{sodac_command}
+use Rattle.command_words.specs.Command.{are_taken, found_in, sodac_command}
 use Rattle.command_words.specs.Orders.{Asked, Origin, order_of, program, seed}
 use Rattle.command_words.specs.declared.mode.Mode.{Mode}
 use Rattle.command_words.specs.declared.mode.Mode.TheVariants.{Check, Plain, Plan, Compile, Sim, Selftest}
@@ -27,47 +26,47 @@ simple : is_simple sodac_command ≡ true
 simple = refl
 
 checked : order_of (codes "sodac" ∷ codes "check" ∷ codes "a.soda" ∷ []) ≡ Some (bare Check (program (codes "a.soda")))
-unfolding clap_on_literals
+unfolding clap_on_literals order_of are_taken found_in
 checked = refl
 
 flag_behind : order_of (codes "sodac" ∷ codes "plan" ∷ codes "a" ∷ codes "--share" ∷ []) ≡ Some (record (bare Plan (program (codes "a"))) { share = true })
-unfolding clap_on_literals
+unfolding clap_on_literals order_of are_taken found_in
 flag_behind = refl
 
 plain_order : order_of (codes "sodac" ∷ codes "--raw" ∷ codes "plain" ∷ codes "--params=p" ∷ codes "a" ∷ codes "20" ∷ codes "x" ∷ codes "y" ∷ [])
     ≡ Some (record (bare Plain (program (codes "a"))) { raw = true; params = Some (codes "p"); rows = Some 20; names = codes "x" ∷ codes "y" ∷ [] })
-unfolding clap_on_literals
+unfolding clap_on_literals order_of are_taken found_in
 plain_order = refl
 
 no_names : order_of (codes "sodac" ∷ codes "plain" ∷ codes "a" ∷ codes "0" ∷ []) ≡ Some (record (bare Plain (program (codes "a"))) { rows = Some 0 })
-unfolding clap_on_literals
+unfolding clap_on_literals order_of are_taken found_in
 no_names = refl
 
 compiled : order_of (codes "sodac" ∷ codes "compile" ∷ codes "a" ∷ codes "m" ∷ []) ≡ Some (record (bare Compile (program (codes "a"))) { target = Some (codes "m") })
-unfolding clap_on_literals
+unfolding clap_on_literals order_of are_taken found_in
 compiled = refl
 
 simulated : order_of (codes "sodac" ∷ codes "sim" ∷ codes "--trace" ∷ codes "--stall" ∷ codes "s" ∷ codes "a" ∷ codes "5" ∷ codes "--" ∷ codes "--raw" ∷ [])
     ≡ Some (record (bare Sim (program (codes "a"))) { trace = true; stall = Some (codes "s"); rows = Some 5; names = codes "--raw" ∷ [] })
-unfolding clap_on_literals
+unfolding clap_on_literals order_of are_taken found_in
 simulated = refl
 
 tested : order_of (codes "sodac" ∷ codes "selftest" ∷ codes "18446744073709551615" ∷ []) ≡ Some (bare Selftest (seed 18446744073709551615))
-unfolding clap_on_literals
+unfolding clap_on_literals order_of are_taken found_in
 tested = refl
 
 dashes_first : order_of (codes "sodac" ∷ codes "--" ∷ codes "check" ∷ codes "-a" ∷ []) ≡ Some (bare Check (program (codes "-a")))
-unfolding clap_on_literals
+unfolding clap_on_literals order_of are_taken found_in
 dashes_first = refl
 
 flags_not_taken : (order_of (codes "sodac" ∷ codes "check" ∷ codes "--raw" ∷ codes "a" ∷ []) ≡ None)
     × (order_of (codes "sodac" ∷ codes "plain" ∷ codes "--stall" ∷ codes "s" ∷ codes "a" ∷ codes "5" ∷ []) ≡ None)
     × (order_of (codes "sodac" ∷ codes "selftest" ∷ codes "--share" ∷ codes "1" ∷ []) ≡ None)
-unfolding clap_on_literals
+unfolding clap_on_literals order_of are_taken found_in
 flags_not_taken = (refl, refl, refl)
 
 flag_twice : order_of (codes "sodac" ∷ codes "check" ∷ codes "--share" ∷ codes "a" ∷ codes "--share" ∷ []) ≡ None
-unfolding clap_on_literals
+unfolding clap_on_literals order_of are_taken found_in
 flag_twice = refl
 
 not_by_clap : (order_of (codes "sodac" ∷ codes "plain" ∷ codes "a" ∷ codes "5" ∷ codes "--params" ∷ []) ≡ None)
@@ -75,7 +74,7 @@ not_by_clap : (order_of (codes "sodac" ∷ codes "plain" ∷ codes "a" ∷ codes
     × (order_of (codes "sodac" ∷ codes "check" ∷ codes "a" ∷ codes "--share=yes" ∷ []) ≡ None)
     × (order_of (codes "sodac" ∷ codes "--help" ∷ []) ≡ None)
     × (order_of (codes "sodac" ∷ codes "--share" ∷ []) ≡ None) × (order_of [] ≡ None)
-unfolding clap_on_literals
+unfolding clap_on_literals order_of are_taken found_in
 not_by_clap = (refl, refl, refl, refl, refl, refl)
 
 words_amiss : (order_of (codes "sodac" ∷ codes "run" ∷ codes "a" ∷ []) ≡ None)
@@ -83,5 +82,5 @@ words_amiss : (order_of (codes "sodac" ∷ codes "run" ∷ codes "a" ∷ []) ≡
     × (order_of (codes "sodac" ∷ codes "plain" ∷ codes "a" ∷ codes "05" ∷ []) ≡ None)
     × (order_of (codes "sodac" ∷ codes "compile" ∷ codes "a" ∷ codes "a" ∷ []) ≡ None)
     × (order_of (codes "sodac" ∷ codes "selftest" ∷ codes "18446744073709551616" ∷ []) ≡ None)
-unfolding clap_on_literals
+unfolding clap_on_literals order_of are_taken found_in
 words_amiss = (refl, refl, refl, refl, refl)

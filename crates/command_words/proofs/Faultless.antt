@@ -1,5 +1,5 @@
 -- A command without subcommands takes the words where no step of their parse has a fault.
-use Rattle.std.proofs.Common.{◌≡◌, ◌∙◌, ◌≤◌, ◌<◌, ℕ, Bool, true, false, not, ◌&&◌, ◌||◌, ◌==◌, ◌+◌, zero, suc, min, List, [], ◌∷◌, drop, length, Option, None, Some, is_some, if◌then◌else◌, refl, sym, ap, arith, nat_le, nat_lt, codes}
+use Rattle.std.proofs.Common.{◌≡◌, ◌∙◌, ◌≤◌, ℕ, Bool, true, false, not, ◌&&◌, ◌||◌, ◌==◌, ◌+◌, zero, suc, min, List, [], ◌∷◌, drop, length, Option, None, Some, is_some, if◌then◌else◌, refl, sym, arith, nat_le, nat_lt, codes}
 use Rattle.std.specs.Prelude.{encode_utf8, slice_get}
 use Rattle.std.specs.List.{list_all, list_any}
 use Rattle.std.specs.Option.{option_map_or}

@@ -1,2 +1,5 @@
 mod Examples
 pub mod Faultless
+pub mod Given
+pub mod Parsed
+pub mod Ordered

@@ -1,8 +1,9 @@
 -- The command `sodac`: what may stand on its line, as data of clap's own definition.
-use Rattle.std.specs.Prelude.{List, [], ◌∷◌, Some, true, codes, fold}
+use Rattle.std.specs.Prelude.{Bool, List, [], ◌∷◌, Some, true, codes, fold}
 use Rattle.clap.specs.Lexer.{usize_max}
-use Rattle.clap.specs.Simple.{App, new_app, new_rule, with_rule}
-use Rattle.clap.specs.Walk.{Rule, Text}
+use Rattle.clap.specs.Simple.{App, matches_of, new_app, new_rule, with_rule}
+use Rattle.clap.specs.Takes.{takes}
+use Rattle.clap.specs.Walk.{Row, Rule, Text}
 use Rattle.clap.specs.declared.builder.action.ArgAction.TheVariants.{Append, Set, SetTrue}
 
 -- a flag `--name`
@@ -31,3 +32,11 @@ sodac_rules =
 -- `sodac [--share] [--raw] [--trace] [--params FILE] [--stall FILE] MODE WORDS`
 abbrev pub sodac_command : App
 sodac_command = fold with_rule (new_app (codes "sodac")) sodac_rules
+
+-- the command takes the words, the first of which is the program's own name
+unfoldable pub are_taken : List Text → Bool
+are_taken words = takes sodac_command words
+
+-- what it finds in words that it takes: a row for each flag, option and positional word
+unfoldable pub found_in : List Text → List Row
+found_in words = matches_of sodac_command words

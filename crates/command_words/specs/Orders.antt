@@ -1,12 +1,11 @@
 -- What the words of a command line ask for.
 use Rattle.std.specs.Prelude.{ℕ, Bool, not, ◌&&◌, ◌||◌, List, [], ◌∷◌, map, Option, Some, None, if◌then◌else◌}
-use Rattle.std.specs.Prelude.{codes, option_and_then, option_map, unwrap_or}
+use Rattle.std.specs.Prelude.{codes, option_and_then, option_map}
 use Rattle.std.specs.Str.{bytes_eq}
-use Rattle.clap.specs.Simple.{matches_of}
-use Rattle.clap.specs.Takes.{is_given, takes}
+use Rattle.clap.specs.Takes.{is_given}
 use Rattle.clap.specs.Walk.{Row, Text, all_of, first_of}
 use Rattle.soda_words.specs.Tokens.{is_number, value_behind}
-use Rattle.command_words.specs.Command.{sodac_command}
+use Rattle.command_words.specs.Command.{are_taken, found_in}
 use Rattle.command_words.specs.Modes.{ModeRow, mode_of, mode_row}
 use Rattle.command_words.specs.declared.mode.Mode.{Mode}
 use Rattle.command_words.specs.declared.mode.Mode.TheVariants.{Check, Plain, Plan, Compile, Sim, Selftest}
@@ -89,9 +88,9 @@ allows_given row rows =
     && (allows row.trace (codes "trace") rows && (allows row.params (codes "params") rows
     && allows row.stall (codes "stall") rows)))
 
--- the words behind the mode
-abbrev pub words_in : List Row → List Text
-words_in rows = unwrap_or (all_of (codes "words") rows) []
+-- what the words behind the mode name, where there are any
+abbrev pub named_in : List Row → Mode → Option Named
+named_in rows mode = option_and_then (named mode) (all_of (codes "words") rows)
 
 -- a mode with the flags and options that are given, and what the words name
 abbrev pub asked_by : List Row → Mode → Named → Asked
@@ -111,15 +110,15 @@ asked_by rows mode named = record {
 -- what is asked of this mode
 abbrev pub order_at : List Row → Mode → Option Asked
 order_at rows mode = if allows_given (mode_row mode) rows
-    then option_map (asked_by rows mode) (named mode (words_in rows)) else None
+    then option_map (asked_by rows mode) (named_in rows mode) else None
 
 -- what clap's matches ask for
 abbrev pub order_in : List Row → Option Asked
 order_in rows = option_and_then (order_at rows) (option_and_then mode_of (first_of (codes "mode") rows))
 
 -- what the words of a command line ask for, the first of which is the program's own name; None where they aren't taken
-abbrev pub order_of : List Text → Option Asked
-order_of words = if takes sodac_command words then order_in (matches_of sodac_command words) else None
+unfoldable pub order_of : List Text → Option Asked
+order_of words = if are_taken words then order_in (found_in words) else None
 
 -- an origin in code, with what it refers to
 abbrev pub origin : Source → Origin
