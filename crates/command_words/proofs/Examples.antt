@@ -42,7 +42,8 @@ no_names : order_of (codes "sodac" ∷ codes "plain" ∷ codes "a" ∷ codes "0"
 unfolding clap_on_literals order_of are_taken found_in
 no_names = refl
 
-compiled : order_of (codes "sodac" ∷ codes "compile" ∷ codes "a" ∷ codes "m" ∷ []) ≡ Some (record (bare Compile (program (codes "a"))) { target = Some (codes "m") })
+compiled : order_of (codes "sodac" ∷ codes "compile" ∷ codes "a" ∷ codes "m" ∷ [])
+    ≡ Some (record (bare Compile (program (codes "a"))) { target = Some (codes "m") })
 unfolding clap_on_literals order_of are_taken found_in
 compiled = refl
 

@@ -61,7 +61,8 @@ set_ok again a vs rows h =
     by true false h = cc
     by false more h = refl
 
-action_ok : (x : ArgAction) (again : Bool) (a : Rule) (vs : List Text) (rows : List Row) → action_fault x again a vs rows ≡ [] → action_passes x again a vs rows ≡ true
+action_ok : (x : ArgAction) (again : Bool) (a : Rule) (vs : List Text) (rows : List Row)
+    → action_fault x again a vs rows ≡ [] → action_passes x again a vs rows ≡ true
 action_ok Set again a vs rows h = set_ok again a vs rows h
 action_ok SetTrue again a vs rows h = set_ok again a vs rows h
 action_ok SetFalse again a vs rows h = set_ok again a vs rows h
@@ -94,7 +95,8 @@ use_ok again a vs rows h =
     let two = neither (range_kinds least (most_values a) (length vs)) (action_fault (action_of a) again a (values_or_missing a vs) rows) h in
     let range = range_ok least (most_values a) (length vs) two.0 in
     and_from (nat_le least (length vs)) (nat_le (length vs) (most_values a) && acts) (le-leb least (length vs) range.0)
-    (and_from (nat_le (length vs) (most_values a)) acts (le-leb (length vs) (most_values a) range.1) (action_ok (action_of a) again a (values_or_missing a vs) rows two.1))
+    (and_from (nat_le (length vs) (most_values a)) acts (le-leb (length vs) (most_values a) range.1)
+    (action_ok (action_of a) again a (values_or_missing a vs) rows two.1))
 
 -- ---- one word
 
@@ -102,7 +104,8 @@ module _ (c : List Rule) (again : Bool) where
   settle_ok : (h : Held) → settle_fault c again h ≡ [] → settle_passes c again h ≡ true
   settle_ok h e = by h.pending e
     where
-      inner : (p : Text × List Text) (o : Option Rule) → option_map_or (λ a. use_fault again a p.1 h.rows) o [] ≡ [] → option_map_or (λ a. use_passes again a p.1 h.rows) o true ≡ true
+      inner : (p : Text × List Text) (o : Option Rule) → option_map_or (λ a. use_fault again a p.1 h.rows) o [] ≡ []
+          → option_map_or (λ a. use_passes again a p.1 h.rows) o true ≡ true
       inner p None e = refl
       inner p (Some a) e = use_ok again a p.1 h.rows e
 
@@ -124,7 +127,8 @@ module _ (c : List Rule) (again : Bool) where
   long_ok None v h e = cc
   long_ok (Some a) v h e = by (takes_values a) v e
     where
-      by : (t : Bool) (v : Option Text) → (if t then option_fault c again a v h else (if is_some v then kind.TooManyValues ∷ [] else react_fault c again a [] h)) ≡ []
+      by : (t : Bool) (v : Option Text)
+          → (if t then option_fault c again a v h else (if is_some v then kind.TooManyValues ∷ [] else react_fault c again a [] h)) ≡ []
           → (if t then option_passes c again a v h else (not (is_some v) && react_passes c again a [] h)) ≡ true
       by true v e = option_ok a v h e
       by false None e = react_ok a [] h e
@@ -157,7 +161,8 @@ module _ (c : List Rule) (again : Bool) where
   flags_ok (suc k) flags skip h e =
       step_ok (slice_get (chars flags) 0) flags skip h (flags_fault c again k) (flags_pass c again k) (flags_ok k) e
 
-  flag_word_ok : (long : Option (Text × Option Text)) (word : Text) (h : Held) → flag_word_fault c again long word h ≡ [] → flag_word_passes c again long word h ≡ true
+  flag_word_ok : (long : Option (Text × Option Text)) (word : Text) (h : Held) → flag_word_fault c again long word h ≡ []
+      → flag_word_passes c again long word h ≡ true
   flag_word_ok (Some p) word h e = long_ok (arg_by_long c p.0) p.1 h e
   flag_word_ok None word h e = by (short_of word) e
     where
@@ -190,7 +195,8 @@ module _ (s : Shape) (names : Names) where
       by true e = refl
       by false e = flag_word_ok s.rules s.args_override_self (long_of word) word h e
 
-  word_ok : (is_trailing : Bool) (waiting : Waiting) (word : Text) (h : Held) → word_fault s names is_trailing waiting word h ≡ [] → word_passes s names is_trailing waiting word h ≡ true
+  word_ok : (is_trailing : Bool) (waiting : Waiting) (word : Text) (h : Held)
+      → word_fault s names is_trailing waiting word h ≡ [] → word_passes s names is_trailing waiting word h ≡ true
   word_ok true waiting word h e = refl
   word_ok false waiting word h e = other_ok (subcommand_met names waiting word) word h e
 
@@ -212,7 +218,8 @@ module _ (s : Shape) (names : Names) where
   turn_ok : (w : Walk) (word : Text) → turn_fault s names w word ≡ [] → turn_passes s names w word ≡ true
   turn_ok w word e = by (is_some w.stopped) (word_met s.rules names w.is_trailing w.waiting w.position word w.held) e
     where
-      by : (t : Bool) (met : Held × Step) → (if t then [] else or_else (word_fault s names w.is_trailing w.waiting word w.held) (step_fault s w.position met.0 met.1)) ≡ []
+      by : (t : Bool) (met : Held × Step)
+          → (if t then [] else or_else (word_fault s names w.is_trailing w.waiting word w.held) (step_fault s w.position met.0 met.1)) ≡ []
           → (t || (word_passes s names w.is_trailing w.waiting word w.held && step_passes s w.position met.0 met.1)) ≡ true
       by true met e = refl
       by false met e =
@@ -225,16 +232,20 @@ module _ (s : Shape) (names : Names) where
   walk_ok w [] e = refl
   walk_ok w (word ∷ rest) e =
       let two = neither (turn_fault s names w word) (walk_fault s names (walked s.rules names w word) rest) e in
-      and_from (turn_passes s names w word) (walk_passes s names (walked s.rules names w word) rest) (turn_ok w word two.0) (walk_ok (walked s.rules names w word) rest two.1)
+      and_from (turn_passes s names w word) (walk_passes s names (walked s.rules names w word) rest) (turn_ok w word two.0)
+      (walk_ok (walked s.rules names w word) rest two.1)
 
   -- ---- after the walk
 
-  all_given : (rows : List Row) (rules : List Rule) → list_any (λ a. a.required && not (is_given a.id rows)) rules ≡ false → list_all (λ a. not a.required || is_given a.id rows) rules ≡ true
+  all_given : (rows : List Row) (rules : List Rule) → list_any (λ a. a.required && not (is_given a.id rows)) rules ≡ false
+      → list_all (λ a. not a.required || is_given a.id rows) rules ≡ true
   all_given rows [] e = refl
   all_given rows (a ∷ rest) e = by a.required (is_given a.id rows) (all_given rows rest) e
     where
-      by : (required given : Bool) → (list_any (λ a. a.required && not (is_given a.id rows)) rest ≡ false → list_all (λ a. not a.required || is_given a.id rows) rest ≡ true)
-          → (required && not given || list_any (λ a. a.required && not (is_given a.id rows)) rest) ≡ false → ((not required || given) && list_all (λ a. not a.required || is_given a.id rows) rest) ≡ true
+      by : (required given : Bool)
+          → (list_any (λ a. a.required && not (is_given a.id rows)) rest ≡ false → list_all (λ a. not a.required || is_given a.id rows) rest ≡ true)
+          → (required && not given || list_any (λ a. a.required && not (is_given a.id rows)) rest) ≡ false
+          → ((not required || given) && list_all (λ a. not a.required || is_given a.id rows) rest) ≡ true
       by true true later e = later e
       by true false later e = cc
       by false given later e = later e
@@ -282,7 +293,8 @@ module _ (s : Shape) (names : Names) where
       (and_from (list_all default_passes s.rules) _ defaults (valid_ok (finished s.rules end) has free three.1)))
 
 -- a simple command without subcommands, of which each default passes and no argument has a rule on another
-pub takes_faultless : (a : App) (words : List Text) → is_simple a ≡ true → (built a).subs ≡ [] → list_all default_passes (built a).top.rules ≡ true → list_all (λ r. r.is_free) (built a).top.rules ≡ true
+pub takes_faultless : (a : App) (words : List Text) → is_simple a ≡ true → (built a).subs ≡ []
+    → list_all default_passes (built a).top.rules ≡ true → list_all (λ r. r.is_free) (built a).top.rules ≡ true
     → fault_of a words ≡ [] → takes a words ≡ true
 takes_faultless a words simple leaf defaults free e =
     let level = level_ok (built a).top [] nothing_held (argument_words a words) false defaults free

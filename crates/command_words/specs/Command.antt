@@ -21,7 +21,10 @@ required_word name = record (new_rule name) { required = true }
 -- all further positional words, none or more
 abbrev pub further_words : Text → Rule
 further_words name =
-    record (new_rule name) { action = Some Append; range = Some (record { start_inclusive = 0; end_inclusive = usize_max }) }
+    record (new_rule name) {
+      action = Some Append;
+      range = Some (record { start_inclusive = 0; end_inclusive = usize_max });
+    }
 
 -- what the command has, in order
 abbrev pub sodac_rules : List Rule

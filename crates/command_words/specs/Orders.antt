@@ -1,6 +1,6 @@
 -- What the words of a command line ask for.
-use Rattle.std.specs.Prelude.{ℕ, Bool, not, ◌&&◌, ◌||◌, List, [], ◌∷◌, map, Option, Some, None, if◌then◌else◌}
-use Rattle.std.specs.Prelude.{codes, option_and_then, option_map}
+use Rattle.std.specs.Prelude.{◌≡◌, ◌≢◌, ◌<◌, ◌^◌, ℕ, Bool, not, ◌&&◌, ◌||◌, List, [], ◌∷◌, map}
+use Rattle.std.specs.Prelude.{Option, Some, None, codes, if◌then◌else◌, option_and_then, option_map}
 use Rattle.std.specs.Str.{bytes_eq}
 use Rattle.clap.specs.Takes.{is_given}
 use Rattle.clap.specs.Walk.{Row, Text, all_of, first_of}
@@ -119,6 +119,25 @@ order_in rows = option_and_then (order_at rows) (option_and_then mode_of (first_
 -- what the words of a command line ask for, the first of which is the program's own name; None where they aren't taken
 unfoldable pub order_of : List Text → Option Asked
 order_of words = if are_taken words then order_in (found_in words) else None
+
+-- what of an order stands behind its mode
+abbrev pub parts_of : Asked → Named
+parts_of a = record { source = a.source; rows = a.rows; target = a.target; names = a.names }
+
+-- PROGRAM, ROWS below 2 ^ 64 and NAMES, and nothing else
+abbrev pub HasArrays : Named → Type 0
+HasArrays n = (name : Text) × (rows : ℕ) × (rows < 2 ^ 64) × (names : List Text)
+    × (n ≡ record (only (program name)) { rows = Some rows; names = names })
+
+-- what a mode's words name, and nothing else
+abbrev pub HasForm : Mode → Named → Type 0
+HasForm Check n = (name : Text) × (n ≡ only (program name))
+HasForm Plain n = HasArrays n
+HasForm Plan n = (name : Text) × (n ≡ only (program name))
+HasForm Compile n =
+    (name : Text) × (file : Text) × (name ≢ file) × (n ≡ record (only (program name)) { target = Some file })
+HasForm Sim n = HasArrays n
+HasForm Selftest n = (k : ℕ) × (k < 2 ^ 64) × (n ≡ only (seed k))
 
 -- an origin in code, with what it refers to
 abbrev pub origin : Source → Origin

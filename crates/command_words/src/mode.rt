@@ -1,7 +1,7 @@
 ghost use Rattle.std.specs.Prelude.{◌≡◌};
-ghost use Rattle.command_words.specs.Modes.{mode_of, mode_row, modes};
+ghost use Rattle.command_words.specs.Modes.{mode_of, mode_row};
 
-/// What the program is asked to do.
+/// What `sodac` is asked to do.
 #[derive(Clone, Copy, Debug, PartialEq, Eq)]
 pub enum Mode {
     /// `check`: print the canonical text.
@@ -52,10 +52,9 @@ impl Mode {
         }
     }
 
-    /// Whether the mode takes arrays, with `--raw` and `--params`.
-    pub(crate) fn takes_arrays(self) -> bool
-        ensures raw { result ≡ (mode_row self).raw }
-        ensures params { result ≡ (mode_row self).params }
+    /// Whether the mode takes `--raw`.
+    pub(crate) fn takes_raw(self) -> bool
+        ensures { result ≡ (mode_row self).raw }
     {
         match self {
             Mode::Plain | Mode::Sim => true,
@@ -63,10 +62,29 @@ impl Mode {
         }
     }
 
-    /// Whether the mode simulates, with `--trace` and `--stall`.
-    pub(crate) fn takes_cycles(self) -> bool
-        ensures trace { result ≡ (mode_row self).trace }
-        ensures stall { result ≡ (mode_row self).stall }
+    /// Whether the mode takes `--trace`.
+    pub(crate) fn takes_trace(self) -> bool
+        ensures { result ≡ (mode_row self).trace }
+    {
+        match self {
+            Mode::Sim => true,
+            Mode::Check | Mode::Plain | Mode::Plan | Mode::Compile | Mode::Selftest => false,
+        }
+    }
+
+    /// Whether the mode takes `--params`.
+    pub(crate) fn takes_params(self) -> bool
+        ensures { result ≡ (mode_row self).params }
+    {
+        match self {
+            Mode::Plain | Mode::Sim => true,
+            Mode::Check | Mode::Plan | Mode::Compile | Mode::Selftest => false,
+        }
+    }
+
+    /// Whether the mode takes `--stall`.
+    pub(crate) fn takes_stall(self) -> bool
+        ensures { result ≡ (mode_row self).stall }
     {
         match self {
             Mode::Sim => true,

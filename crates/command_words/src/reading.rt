@@ -5,7 +5,7 @@ ghost use Rattle.clap.specs.Takes.{is_given};
 ghost use Rattle.clap.specs.Walk.{first_of, rows_of};
 ghost use Rattle.command_words.specs.Modes.{mode_row};
 ghost use Rattle.command_words.specs.Views.Parts.{named_of};
-ghost use Rattle.command_words.specs.Orders.{allows, allows_given, asked, named_in, order_at, order_in, order_of};
+ghost use Rattle.command_words.specs.Orders.{HasForm, parts_of, allows, allows_given, asked, named_in, order_at, order_in, order_of};
 
 use crate::command::parse;
 use crate::mode::mode_of;
@@ -46,10 +46,10 @@ fn allows_given(mode: Mode, matches: &ArgMatches<'_>) -> bool
     ensures { result ≡ allows_given (mode_row mode) (rows_of (found_of matches.now)) }
 {
     allows(mode.takes_share(), "share", matches)
-        && allows(mode.takes_arrays(), "raw", matches)
-        && allows(mode.takes_cycles(), "trace", matches)
-        && allows(mode.takes_arrays(), "params", matches)
-        && allows(mode.takes_cycles(), "stall", matches)
+        && allows(mode.takes_raw(), "raw", matches)
+        && allows(mode.takes_trace(), "trace", matches)
+        && allows(mode.takes_params(), "params", matches)
+        && allows(mode.takes_stall(), "stall", matches)
 }
 
 // The value of an option, or of the mode's word.
@@ -113,6 +113,7 @@ fn order_in<'a>(alloc: Global, matches: &ArgMatches<'a>) -> Result<Order<'a>, Or
 /// refused.
 pub fn read_order<'a>(alloc: Global, words: &'a [String]) -> Result<Order<'a>, OrderFail>
     ensures found { IfOk result (λ order. order_of (map string_bytes words.entry.now) ≡ Some (asked order)) }
+    ensures form { IfOk result (λ order. HasForm order.mode (parts_of (asked order))) }
     ensures usage { IsErrOf result OrderFail.Usage → order_of (map string_bytes words.entry.now) ≡ None }
 {
     let matches = parse(alloc, words)?;

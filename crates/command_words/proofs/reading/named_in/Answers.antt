@@ -8,8 +8,10 @@ use Rattle.command_words.proofs.reading.named_in.Goals as goal
 
 pub returns-in_err-get_strs : goal.returns-in_err-get_strs
 returns-in_err-get_strs c =
-    ap (option_map named_of) c.from_residual.ensures ∙ ap (option_and_then (named c.args.mode)) (c.in_err-get_strs.ensures ∙ raw_values-rows (found_of c.args.matches.now) (codes "words"))
+    let none = c.in_err-get_strs.ensures ∙ raw_values-rows (found_of c.args.matches.now) (codes "words") in
+    ap (option_map named_of) c.from_residual.ensures ∙ ap (option_and_then (named c.args.mode)) none
 
 pub returns : goal.returns
 returns c =
-    c.read_named.ensures ∙ ap (option_and_then (named c.args.mode)) (c.in_ok-get_strs.ensures ∙ raw_values-rows (found_of c.args.matches.now) (codes "words"))
+    let words = c.in_ok-get_strs.ensures ∙ raw_values-rows (found_of c.args.matches.now) (codes "words") in
+    c.read_named.ensures ∙ ap (option_and_then (named c.args.mode)) words

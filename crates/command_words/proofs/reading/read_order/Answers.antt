@@ -1,6 +1,7 @@
-use Rattle.std.proofs.Common.{◌∙◌, ap, map, string_bytes, sym}
+use Rattle.std.proofs.Common.{map, string_bytes}
 use Rattle.std.proofs.lemmas.Result.{IfOk-weaker, err_from_is_err_and}
-use Rattle.command_words.specs.Orders.{order_in}
+use Rattle.command_words.specs.Orders.{asked}
+use Rattle.command_words.proofs.Forms.{order_of_form}
 use Rattle.command_words.proofs.Ordered.{order_of-taken, order_of-untaken}
 use Rattle.command_words.proofs.reading.read_order.Goals as goal
 
@@ -11,7 +12,18 @@ returns-in_err-matches-clause-usage c =
 
 pub returns-clause-found : goal.returns-clause-found
 returns-clause-found c =
-    IfOk-weaker c.order_in-order.result _ _ (λ o h. order_of-taken (map string_bytes c.args.words.now) c.in_ok-matches.ensures.taken ∙ (ap order_in (sym c.in_ok-matches.ensures.rows) ∙ h)) c.order_in-order.ensures.found
+    let parsed = c.in_ok-matches.ensures in
+    IfOk-weaker c.order_in-order.result _ _ (λ o h.
+    order_of-taken (map string_bytes c.args.words.now) _ _ parsed.taken parsed.rows h) c.order_in-order.ensures.found
+
+pub returns-clause-form : goal.returns-clause-form
+returns-clause-form c =
+    let words = map string_bytes c.args.words.now in
+    let parsed = c.in_ok-matches.ensures in
+    IfOk-weaker c.order_in-order.result _ _ (λ o h.
+    order_of_form words (asked o) (order_of-taken words _ _ parsed.taken parsed.rows h)) c.order_in-order.ensures.found
 
 pub returns-clause-usage : goal.returns-clause-usage
-returns-clause-usage c = λ e. order_of-taken (map string_bytes c.args.words.now) c.in_ok-matches.ensures.taken ∙ (ap order_in (sym c.in_ok-matches.ensures.rows) ∙ c.order_in-order.ensures.usage e)
+returns-clause-usage c = λ e.
+    let parsed = c.in_ok-matches.ensures in
+    order_of-taken (map string_bytes c.args.words.now) _ _ parsed.taken parsed.rows (c.order_in-order.ensures.usage e)
