@@ -88,9 +88,9 @@ fn failure(error: Error) -> OrderFail
 ///
 /// `Usage` where the command `sodac` doesn't take them; `Memory` where memory was refused.
 pub(crate) fn parse<'a>(alloc: Global, words: &'a [String]) -> Result<ArgMatches<'a>, OrderFail>
-    ensures taken { OnOk result (are_taken (map string_bytes words.entry.now) ≡ true) }
-    ensures rows { IfOk result (λ m. rows_of (found_of m) ≡ found_in (map string_bytes words.entry.now)) }
-    ensures usage { IsErrOf result OrderFail.Usage → are_taken (map string_bytes words.entry.now) ≡ false }
+    ensures taken { OnOk result (are_taken (map string_bytes words.now) ≡ true) }
+    ensures rows { IfOk result (λ m. rows_of (found_of m) ≡ found_in (map string_bytes words.now)) }
+    ensures usage { IsErrOf result OrderFail.Usage → are_taken (map string_bytes words.now) ≡ false }
 {
     let command = sodac_command(alloc)?;
     match command.try_get_matches_from(words) {

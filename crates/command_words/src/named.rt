@@ -23,7 +23,7 @@ fn number_of(word: &str) -> Option<u64>
 
 // The words are PROGRAM.
 fn program_named<'m, 'a>(words: &'m [&'a str]) -> Option<Named<'m, 'a>>
-    ensures { option_map named_of result ≡ program_named (map (λ w. w.now) words.entry.now) }
+    ensures { option_map named_of result ≡ program_named (map (λ w. w.now) words.now) }
 {
     match words {
         [name] => Some(Named {
@@ -38,7 +38,7 @@ fn program_named<'m, 'a>(words: &'m [&'a str]) -> Option<Named<'m, 'a>>
 
 // The words are PROGRAM FILE, two names that aren't equal.
 fn program_and_file_named<'m, 'a>(words: &'m [&'a str]) -> Option<Named<'m, 'a>>
-    ensures { option_map named_of result ≡ program_and_file_named (map (λ w. w.now) words.entry.now) }
+    ensures { option_map named_of result ≡ program_and_file_named (map (λ w. w.now) words.now) }
 {
     match words {
         [name, file] if name != file => Some(Named {
@@ -53,7 +53,7 @@ fn program_and_file_named<'m, 'a>(words: &'m [&'a str]) -> Option<Named<'m, 'a>>
 
 // The words are PROGRAM ROWS and any number of NAMES.
 fn arrays_named<'m, 'a>(words: &'m [&'a str]) -> Option<Named<'m, 'a>>
-    ensures { option_map named_of result ≡ arrays_named (map (λ w. w.now) words.entry.now) }
+    ensures { option_map named_of result ≡ arrays_named (map (λ w. w.now) words.now) }
 {
     match words {
         [name, rows, names @ ..] => {
@@ -71,7 +71,7 @@ fn arrays_named<'m, 'a>(words: &'m [&'a str]) -> Option<Named<'m, 'a>>
 
 // The words are SEED.
 fn seed_named<'m, 'a>(words: &'m [&'a str]) -> Option<Named<'m, 'a>>
-    ensures { option_map named_of result ≡ seed_named (map (λ w. w.now) words.entry.now) }
+    ensures { option_map named_of result ≡ seed_named (map (λ w. w.now) words.now) }
 {
     match words {
         [seed] => {
@@ -89,7 +89,7 @@ fn seed_named<'m, 'a>(words: &'m [&'a str]) -> Option<Named<'m, 'a>>
 
 /// What the words behind a mode name, where they have the mode's form.
 pub(crate) fn read_named<'m, 'a>(mode: Mode, words: &'m [&'a str]) -> Option<Named<'m, 'a>>
-    ensures { option_map named_of result ≡ named mode (map (λ w. w.now) words.entry.now) }
+    ensures { option_map named_of result ≡ named mode (map (λ w. w.now) words.now) }
 {
     match mode {
         Mode::Check | Mode::Plan => program_named(words),

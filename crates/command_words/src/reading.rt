@@ -61,7 +61,7 @@ fn value_of<'a>(matches: &ArgMatches<'a>, name: &str) -> Option<&'a str>
 
 // What the words behind the mode name, where there are any.
 fn named_in<'m, 'a>(mode: Mode, matches: &'m ArgMatches<'a>) -> Option<Named<'m, 'a>>
-    ensures { option_map named_of result ≡ named_in (rows_of (found_of matches.entry.now)) mode }
+    ensures { option_map named_of result ≡ named_in (rows_of (found_of matches.now)) mode }
 {
     read_named(mode, matches.get_strs("words")?)
 }
@@ -112,9 +112,9 @@ fn order_in<'a>(alloc: Global, matches: &ArgMatches<'a>) -> Result<Order<'a>, Or
 /// doesn't take a flag or an option that is given, or the words behind it haven't its form. `Memory` where memory was
 /// refused.
 pub fn read_order<'a>(alloc: Global, words: &'a [String]) -> Result<Order<'a>, OrderFail>
-    ensures found { IfOk result (λ order. order_of (map string_bytes words.entry.now) ≡ Some (asked order)) }
+    ensures found { IfOk result (λ order. order_of (map string_bytes words.now) ≡ Some (asked order)) }
     ensures form { IfOk result (λ order. HasForm order.mode (parts_of (asked order))) }
-    ensures usage { IsErrOf result OrderFail.Usage → order_of (map string_bytes words.entry.now) ≡ None }
+    ensures usage { IsErrOf result OrderFail.Usage → order_of (map string_bytes words.now) ≡ None }
 {
     let matches = parse(alloc, words)?;
     let order = order_in(alloc, &matches);
