@@ -56,6 +56,11 @@ tested : order_of (codes "sodac" ∷ codes "selftest" ∷ codes "184467440737095
 unfolding clap_on_literals order_of are_taken found_in
 tested = refl
 
+between_words : order_of (codes "sodac" ∷ codes "plain" ∷ codes "a" ∷ codes "--share" ∷ codes "5" ∷ codes "-" ∷ codes "--params" ∷ codes "p" ∷ codes "y" ∷ [])
+    ≡ Some (record (bare Plain (program (codes "a"))) { share = true; params = Some (codes "p"); rows = Some 5; names = codes "-" ∷ codes "y" ∷ [] })
+unfolding clap_on_literals order_of are_taken found_in
+between_words = refl
+
 dashes_first : order_of (codes "sodac" ∷ codes "--" ∷ codes "check" ∷ codes "-a" ∷ []) ≡ Some (bare Check (program (codes "-a")))
 unfolding clap_on_literals order_of are_taken found_in
 dashes_first = refl
@@ -71,12 +76,13 @@ unfolding clap_on_literals order_of are_taken found_in
 flag_twice = refl
 
 not_by_clap : (order_of (codes "sodac" ∷ codes "plain" ∷ codes "a" ∷ codes "5" ∷ codes "--params" ∷ []) ≡ None)
+    × (order_of (codes "sodac" ∷ codes "plain" ∷ codes "--params" ∷ codes "--raw" ∷ codes "a" ∷ codes "5" ∷ []) ≡ None)
     × (order_of (codes "sodac" ∷ codes "check" ∷ codes "a" ∷ codes "--fast" ∷ []) ≡ None)
     × (order_of (codes "sodac" ∷ codes "check" ∷ codes "a" ∷ codes "--share=yes" ∷ []) ≡ None)
     × (order_of (codes "sodac" ∷ codes "--help" ∷ []) ≡ None)
     × (order_of (codes "sodac" ∷ codes "--share" ∷ []) ≡ None) × (order_of [] ≡ None)
 unfolding clap_on_literals order_of are_taken found_in
-not_by_clap = (refl, refl, refl, refl, refl, refl)
+not_by_clap = (refl, refl, refl, refl, refl, refl, refl)
 
 words_amiss : (order_of (codes "sodac" ∷ codes "run" ∷ codes "a" ∷ []) ≡ None)
     × (order_of (codes "sodac" ∷ codes "check" ∷ codes "a" ∷ codes "b" ∷ []) ≡ None)

@@ -4,8 +4,8 @@ ghost use Rattle.clap.specs.Matches.{found_of};
 ghost use Rattle.clap.specs.Takes.{is_given};
 ghost use Rattle.clap.specs.Walk.{first_of, rows_of};
 ghost use Rattle.command_words.specs.Modes.{mode_row};
+ghost use Rattle.command_words.specs.Orders.{HasForm, allows, allows_given, asked, named_in, order_at, order_in, order_of, parts_of};
 ghost use Rattle.command_words.specs.Views.Parts.{named_of};
-ghost use Rattle.command_words.specs.Orders.{HasForm, parts_of, allows, allows_given, asked, named_in, order_at, order_in, order_of};
 
 use crate::command::parse;
 use crate::mode::mode_of;
