@@ -1,0 +1,4 @@
+pub mod Entries
+pub mod Going
+pub mod Advancing
+pub mod Outputs
