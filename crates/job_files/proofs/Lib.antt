@@ -1,4 +1,7 @@
+pub mod CallerLemmas
 pub mod Entries
 pub mod Going
 pub mod Advancing
 pub mod Outputs
+pub mod Listed
+pub mod Emptying

@@ -1,5 +1,6 @@
 -- The files of a job.
 use Rattle.std.specs.Prelude.{◌≡◌, ℕ, zero, suc, ◌+◌, Bool, List, [], ◌∷◌, map, slice_get, Some}
+use Rattle.std.specs.Borrow.{Bor}
 use Rattle.soda_io.specs.declared.role.FileRole.{FileRole}
 
 -- a file of a job: what it is for, whether it is opened or created, and its name
@@ -20,3 +21,7 @@ HasRole files n role = slice_get (map (λ f. f.role) files) n ≡ Some role
 abbrev pub ids_from : ℕ → ℕ → List ℕ
 ids_from id zero = []
 ids_from id (suc count) = id ∷ ids_from (id + 1) count
+
+-- the names that references point to
+abbrev pub names_of : List (Bor (List ℕ)) → List (List ℕ)
+names_of names = map (λ name. name.now) names
