@@ -26,7 +26,8 @@ begin first begun = record {
 }
 
 -- the n-th file that was asked for
-module _ (first : ℕ) (begun : Store) (files : List JobFile) (ended : ℕ) (places : ℕ → ℕ) (given : ℕ) (now : Store) (p : Progress first begun files ended places given now) (n : ℕ) (f : JobFile) (is : slice_get files n ≡ Some f) where
+module _ (first : ℕ) (begun : Store) (files : List JobFile) (ended : ℕ) (places : ℕ → ℕ) (given : ℕ) (now : Store)
+    (p : Progress first begun files ended places given now) (n : ℕ) (f : JobFile) (is : slice_get files n ≡ Some f) where
   -- its id was given
   pub id_given : first + n < given
   id_given = let below : n < length files = slice_get_within files n f is in omega (arith, p.well.count)
@@ -49,5 +50,7 @@ pub holds_none : (before : Holding) → Holds before before []
 holds_none before = record { apart = tt; own = λ k d lt. absurd (omega arith); others = λ name free. refl }
 
 -- a step that changes the bytes of no name
-pub holds_kept : (before old new : Holding) (outputs : List (List ℕ × List ℕ)) → ((name : List ℕ) → new name ≡ old name) → Holds before old outputs → Holds before new outputs
-holds_kept before old new outputs keeps h = record { apart = h.apart; own = λ k d lt. keeps _ ∙ h.own k d lt; others = λ name free. keeps name ∙ h.others name free }
+pub holds_kept : (before old new : Holding) (outputs : List (List ℕ × List ℕ)) → ((name : List ℕ) → new name ≡ old name) → Holds before old outputs
+    → Holds before new outputs
+holds_kept before old new outputs keeps h = record
+    { apart = h.apart; own = λ k d lt. keeps _ ∙ h.own k d lt; others = λ name free. keeps name ∙ h.others name free }

@@ -21,15 +21,18 @@ askings-append (Create name id ∷ xs) ys = ap (λ (qs : List Asking). (false, n
 askings-append (Read id asked got ∷ xs) ys = askings-append xs ys
 askings-append (Write id given taken ∷ xs) ys = askings-append xs ys
 
-pub given_from-push : (id : ℕ) (fs : List JobFile) (f : JobFile) → given_from id (fs ++ f ∷ []) ≡ given_from id fs ++ (f.opened, f.name, Some (id + length fs)) ∷ []
+pub given_from-push : (id : ℕ) (fs : List JobFile) (f : JobFile)
+    → given_from id (fs ++ f ∷ []) ≡ given_from id fs ++ (f.opened, f.name, Some (id + length fs)) ∷ []
 given_from-push id [] f = let e : id ≡ id + 0 = omega arith in ap (λ (k : ℕ). let a : Asking = (f.opened, f.name, Some k) in a ∷ []) e
 given_from-push id (g ∷ fs) f =
     let e : id + 1 + length fs ≡ id + suc (length fs) = omega arith in
     let head : Asking = (g.opened, g.name, Some id) in
-    ap (λ (qs : List Asking). head ∷ qs) (given_from-push (id + 1) fs f ∙ ap (λ (k : ℕ). let a : Asking = (f.opened, f.name, Some k) in given_from (id + 1) fs ++ a ∷ []) e)
+    ap (λ (qs : List Asking). head ∷ qs) (given_from-push (id + 1) fs f
+    ∙ ap (λ (k : ℕ). let a : Asking = (f.opened, f.name, Some k) in given_from (id + 1) fs ++ a ∷ []) e)
 
 -- a file of a list with one more
-pub at_push : (fs : List JobFile) (f : JobFile) (n : ℕ) (x : JobFile) → slice_get (fs ++ f ∷ []) n ≡ Some x → (slice_get fs n ≡ Some x) ⊎ ((n ≡ length fs) × (f ≡ x))
+pub at_push : (fs : List JobFile) (f : JobFile) (n : ℕ) (x : JobFile) → slice_get (fs ++ f ∷ []) n ≡ Some x
+    → (slice_get fs n ≡ Some x) ⊎ ((n ≡ length fs) × (f ≡ x))
 at_push [] f zero x e = inr (refl, cc)
 at_push [] f (suc n) x e = absurd (cc)
 at_push (g ∷ fs) f zero x e = inl e
@@ -68,7 +71,8 @@ got_id id i asked None h = absurd h
 pub gots_only : (id : ℕ) (es : List FileCall) → All (IsGot id) es → OnlyReads id es
 gots_only id [] all = λ k ne. refl
 gots_only id (Read i asked got ∷ es) all = λ k ne.
-    other_read k i asked got es (λ e. ne (e ∙ got_id id i asked got (All-head (IsGot id) (Read i asked got) es all))) ∙ gots_only id es (All-tail (IsGot id) (Read i asked got) es all) k ne
+    other_read k i asked got es (λ e. ne (e ∙ got_id id i asked got (All-head (IsGot id) (Read i asked got) es all)))
+    ∙ gots_only id es (All-tail (IsGot id) (Read i asked got) es all) k ne
 gots_only id (Open name i ∷ es) all = absurd (All-head (IsGot id) (Open name i) es all)
 gots_only id (Create name i ∷ es) all = absurd (All-head (IsGot id) (Create name i) es all)
 gots_only id (Write i n t ∷ es) all = absurd (All-head (IsGot id) (Write i n t) es all)
@@ -150,7 +154,8 @@ module _ (first ended : ℕ) (entries : List FileCall) (r : AreReadOut first end
 
   module _ (more : List FileCall) (only : OnlyReads (first + ended) more) where
     out_before : (n : ℕ) → n < ended → MetTheEnd (gots (first + n) (entries ++ more))
-    out_before n lt = let P : List (Option ℕ) → Type 0 = λ gs. MetTheEnd gs in subst P (same more (first + n) (only (first + n) (λ e. absurd (omega arith)))) (r.out n lt)
+    out_before n lt = let P : List (Option ℕ)
+        → Type 0 = λ gs. MetTheEnd gs in subst P (same more (first + n) (only (first + n) (λ e. absurd (omega arith)))) (r.out n lt)
 
     rest_behind : (n : ℕ) → ended < n → gots (first + n) (entries ++ more) ≡ []
     rest_behind n lt = sym (same more (first + n) (only (first + n) (λ e. absurd (omega arith)))) ∙ r.rest n lt
@@ -160,7 +165,8 @@ module _ (first ended : ℕ) (entries : List FileCall) (r : AreReadOut first end
     read_on none = record {
       out = out_before;
       next = let P : List (Option ℕ) → Type 0 = λ gs. MetNoEnd gs in
-          subst P (sym (gots-append (first + ended) entries more)) (All-append (λ (g : Option ℕ). g ≢ Some 0) (gots (first + ended) entries) (gots (first + ended) more) r.next none);
+          subst P (sym (gots-append (first + ended) entries more))
+          (All-append (λ (g : Option ℕ). g ≢ Some 0) (gots (first + ended) entries) (gots (first + ended) more) r.next none);
       rest = rest_behind;
     }
 
@@ -169,7 +175,8 @@ module _ (first ended : ℕ) (entries : List FileCall) (r : AreReadOut first end
     read_out gs is none =
         let whole : MetTheEnd (gots (first + ended) (entries ++ more)) = record {
           before = gots (first + ended) entries ++ gs;
-          last = gots-append (first + ended) entries more ∙ ap (λ (hs : List (Option ℕ)). gots (first + ended) entries ++ hs) is ∙ sym (append_assoc (gots (first + ended) entries) gs (Some 0 ∷ []));
+          last = gots-append (first + ended) entries more ∙ ap (λ (hs : List (Option ℕ)). gots (first + ended) entries ++ hs) is
+              ∙ sym (append_assoc (gots (first + ended) entries) gs (Some 0 ∷ []));
           none = All-append (λ (g : Option ℕ). g ≢ Some 0) (gots (first + ended) entries) gs r.next none;
         } in
         record {
@@ -178,6 +185,7 @@ module _ (first ended : ℕ) (entries : List FileCall) (r : AreReadOut first end
             | inr (inl below) ↦ out_before n below
             | inr (inr above) ↦ absurd (omega arith)
           ];
-          next = let P : List (Option ℕ) → Type 0 = λ gs. MetNoEnd gs in subst P (sym (rest_behind (ended + 1) (omega arith))) (All-nil (λ (g : Option ℕ). g ≢ Some 0));
+          next = let P : List (Option ℕ) → Type 0 = λ gs. MetNoEnd gs in subst P (sym (rest_behind (ended + 1) (omega arith)))
+              (All-nil (λ (g : Option ℕ). g ≢ Some 0));
           rest = λ n lt. rest_behind n (omega arith);
         }

@@ -24,10 +24,13 @@ moved_is places n place = record {
   ] refl;
 }
 
-module _ (first : ℕ) (files : List JobFile) (ended : ℕ) (places : ℕ → ℕ) (given : ℕ) (old : Store) (entries : List FileCall) (w : GoesWell first files ended places given old entries) (new : Store) (keeps : KeepsIds given old new) where
+module _ (first : ℕ) (files : List JobFile) (ended : ℕ) (places : ℕ → ℕ) (given : ℕ) (old : Store) (entries : List FileCall)
+    (w : GoesWell first files ended places given old entries) (new : Store) (keeps : KeepsIds given old new) where
   -- no more files are asked for
-  onward : (more : List FileCall) → All (IsDone first (length files)) more → askings more ≡ [] → (stage : ℕ) (after : ℕ → ℕ) → stage ≤ length files → AreReadOut first stage (entries ++ more)
-      → ((n : ℕ) → n < length files → new.place (first + n) ≡ after n) → ((n : ℕ) → stage < n → after n ≡ 0) → ((n : ℕ) → length files ≤ n → after n ≡ 0) → GoesWell first files stage after given new (entries ++ more)
+  onward : (more : List FileCall) → All (IsDone first (length files)) more → askings more ≡ [] → (stage : ℕ) (after : ℕ → ℕ) → stage ≤ length files
+      → AreReadOut first stage (entries ++ more)
+      → ((n : ℕ) → n < length files → new.place (first + n) ≡ after n) → ((n : ℕ) → stage < n → after n ≡ 0) → ((n : ℕ) → length files ≤ n → after n ≡ 0)
+      → GoesWell first files stage after given new (entries ++ more)
   onward more done none stage after within read place unread unasked = record {
     count = w.count;
     within = within;
@@ -44,14 +47,18 @@ module _ (first : ℕ) (files : List JobFile) (ended : ℕ) (places : ℕ → �
   }
 
   -- nothing is read either
-  pub quietly : KeepsPlaces given old new → (more : List FileCall) → All (IsDone first (length files)) more → askings more ≡ [] → IsQuiet more → GoesWell first files ended places given new (entries ++ more)
+  pub quietly : KeepsPlaces given old new → (more : List FileCall) → All (IsDone first (length files)) more → askings more ≡ [] → IsQuiet more
+      → GoesWell first files ended places given new (entries ++ more)
   quietly stay more done none quiet =
       onward more done none ended places w.within (read_nothing first ended entries w.read more quiet)
-      (λ n below. let t = there files n below in let lt : first + n < given = omega (arith, w.count) in stay (first + n) lt ∙ (w.ids n t.0 t.1).place) w.unread w.unasked
+      (λ n below. let t = there files n below in let lt : first + n < given = omega (arith, w.count) in stay (first + n) lt ∙ (w.ids n t.0 t.1).place)
+      w.unread w.unasked
 
   -- the next file is read
-  pub reading : ended < length files → ((k : ℕ) → k < given → k ≢ first + ended → new.place k ≡ old.place k) → (more : List FileCall) → All (IsDone first (length files)) more → askings more ≡ []
-      → (stage : ℕ) → (ended ≤ stage) × (stage ≤ length files) → AreReadOut first stage (entries ++ more) → (taken : ℕ) → new.place (first + ended) ≡ old.place (first + ended) + taken
+  pub reading : ended < length files → ((k : ℕ) → k < given → k ≢ first + ended → new.place k ≡ old.place k) → (more : List FileCall)
+      → All (IsDone first (length files)) more → askings more ≡ []
+      → (stage : ℕ) → (ended ≤ stage) × (stage ≤ length files) → AreReadOut first stage (entries ++ more) → (taken : ℕ)
+      → new.place (first + ended) ≡ old.place (first + ended) + taken
       → GoesWell first files stage (moved places ended (places ended + taken)) given new (entries ++ more)
   reading below others more done none stage within read taken place =
       let m = moved_is places ended (places ended + taken) in
@@ -69,8 +76,10 @@ module _ (first : ℕ) (files : List JobFile) (ended : ℕ) (places : ℕ → �
       (λ n le. m.others n (λ s. absurd (omega arith)) ∙ w.unasked n le)
 
   -- one more file is asked for, and given
-  pub asking_more : KeepsPlaces given old new → (f : JobFile) (call : FileCall) → askings (call ∷ []) ≡ (f.opened, f.name, Some given) ∷ [] → IsDone first (length files + 1) call → IsQuiet (call ∷ [])
-      → (now id : ℕ) → now ≡ given + 1 → id ≡ given → IsFresh new id f.name f.opened → GoesWell first (files ++ f ∷ []) ended places now new (entries ++ call ∷ [])
+  pub asking_more : KeepsPlaces given old new → (f : JobFile) (call : FileCall) → askings (call ∷ []) ≡ (f.opened, f.name, Some given) ∷ []
+      → IsDone first (length files + 1) call → IsQuiet (call ∷ [])
+      → (now id : ℕ) → now ≡ given + 1 → id ≡ given → IsFresh new id f.name f.opened
+      → GoesWell first (files ++ f ∷ []) ended places now new (entries ++ call ∷ [])
   asking_more stay f call asked done quiet now id is same fresh =
       let longer : length (files ++ f ∷ []) ≡ length files + 1 = length-append files (f ∷ []) in
       let one : IsDone first (length (files ++ f ∷ [])) call = let P : ℕ → Type 0 = λ k. IsDone first k call in subst P (sym longer) done in
@@ -78,8 +87,10 @@ module _ (first : ℕ) (files : List JobFile) (ended : ℕ) (places : ℕ → �
         count = omega (arith, w.count);
         within = omega (arith, w.within);
         done = All-push (IsDone first (length (files ++ f ∷ []))) entries call
-            (All-weaker (IsDone first (length files)) (IsDone first (length (files ++ f ∷ []))) (done_more first (length files) (length (files ++ f ∷ [])) (omega arith)) entries w.done) one;
-        asked = askings-append entries (call ∷ []) ∙ ap (λ (qs : List Asking). askings entries ++ qs) asked ∙ ap (λ (qs : List Asking). qs ++ (f.opened, f.name, Some given) ∷ []) w.asked
+            (All-weaker (IsDone first (length files)) (IsDone first (length (files ++ f ∷ [])))
+            (done_more first (length files) (length (files ++ f ∷ [])) (omega arith)) entries w.done) one;
+        asked = askings-append entries (call ∷ []) ∙ ap (λ (qs : List Asking). askings entries ++ qs) asked
+            ∙ ap (λ (qs : List Asking). qs ++ (f.opened, f.name, Some given) ∷ []) w.asked
             ∙ ap (λ (k : ℕ). let a : Asking = (f.opened, f.name, Some k) in given_from first files ++ a ∷ []) w.count ∙ sym (given_from-push first files f);
         read = read_nothing first ended entries w.read (call ∷ []) quiet;
         ids = λ n g at. elim (at_push files f n g at) [

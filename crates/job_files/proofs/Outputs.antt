@@ -1,14 +1,23 @@
 -- What the outputs hold after each step.
-use Rattle.std.proofs.Common.{◌≡◌, ◌≢◌, ℕ, List, [], ◌∷◌, ◌++◌, take, Some, Result, Ok, Err, OnOk, All, refl, sym, ap, ◌∙◌}
+use Rattle.std.proofs.Common.{◌≡◌, ◌≢◌, ℕ, List, [], ◌∷◌, ◌++◌, take, Some, Result, Ok, Err, OnOk, All, refl, sym, ap, ◌∙◌, true, false, None, Option}
 use Rattle.std.proofs.lemmas.List.Elements.{All-append, All-cons, All-head, All-nil, All-push, All-tail}
 use Rattle.soda_io.specs.declared.error.IoErr.{IoErr}
-use Rattle.soda_io.specs.Store.{Creates, Puts, Store}
+use Rattle.soda_io.specs.Store.{Creates, Opens, Puts, Store}
 use Rattle.whole_files.specs.Writing.{WritesWhole}
-use Rattle.job_files.specs.Contents.{AreApart, Holding, Holds, IsNoneOf, PutsTo, emptied}
+use Rattle.job_files.specs.Contents.{AreApart, Holding, Holds, IsNoneOf, IsThere, PutsTo, emptied}
 
 -- an output: its name and its bytes
 abbrev pub Output : Type 0
 Output = List ℕ × List ℕ
+
+there_of : (old : Option (List ℕ)) → (old ≡ None → ⊥) → (bytes : List ℕ) × (old ≡ Some bytes)
+there_of None none = absurd (none refl)
+there_of (Some bytes) none = (bytes, refl)
+
+-- a name that was opened was there
+pub opened_there : (given : ℕ) (old new : Store) (name : List ℕ) (r : Result ℕ IoErr) → Opens given old new name r → OnOk r (IsThere old.bytes name)
+opened_there given old new name (Ok id) o = there_of (old.bytes name) (λ e. let bad : false ≡ true = o.missing e in cc)
+opened_there given old new name (Err e) o = tt
 
 -- the parts of a list about one place
 pub all_front : (P : Output → Type 0) (xs ys : List Output) → All P (xs ++ ys) → All P xs
@@ -61,13 +70,15 @@ module _ (before : Holding) (old new : Holding) (outputs : List Output) (name : 
         p.others n (λ e. other (sym e)) ∙ h.others n (all_front P outputs (emptied name ∷ []) free);
   }
 
-pub created_holds : (before : Holding) (given : ℕ) (old new : Store) (outputs : List Output) (name : List ℕ) (r : Result ℕ IoErr) → Creates given old new name r → Holds before old.bytes outputs → IsNoneOf outputs name
+pub created_holds : (before : Holding) (given : ℕ) (old new : Store) (outputs : List Output) (name : List ℕ) (r : Result ℕ IoErr)
+    → Creates given old new name r → Holds before old.bytes outputs → IsNoneOf outputs name
     → OnOk r (Holds before new.bytes (outputs ++ emptied name ∷ []))
 created_holds before given old new outputs name (Ok id) c h none = holds_more before old.bytes new.bytes outputs name h none c.emptied
 created_holds before given old new outputs name (Err e) c h none = tt
 
 -- an output gets more bytes
-module _ (before : Holding) (given : ℕ) (old new : Store) (id : ℕ) (bytes : List ℕ) (r : Result (Unit {0}) IoErr) (w : WritesWhole given old new id bytes r) (front back : List Output) (name so_far : List ℕ) (is : old.name id ≡ name)
+module _ (before : Holding) (given : ℕ) (old new : Store) (id : ℕ) (bytes : List ℕ) (r : Result (Unit {0}) IoErr) (w : WritesWhole given old new id bytes r)
+    (front back : List Output) (name so_far : List ℕ) (is : old.name id ≡ name)
     (h : Holds before old.bytes (front ++ (name, so_far) ∷ back)) where
   kept : (n : List ℕ) → n ≢ name → new.bytes n ≡ old.bytes n
   kept n ne = w.others n (λ e. ne (e ∙ is))
@@ -89,7 +100,8 @@ module _ (before : Holding) (given : ℕ) (old new : Store) (id : ℕ) (bytes : 
         puts = record { count = w.count; at_most = w.at_most; all = w.all; put = refl };
         holds = record {
           apart = apart_same front back name so_far now h.apart;
-          own = All-append Q front ((name, now) ∷ back) (λ k d lt. kept _ (front_free k d lt) ∙ front_own k d lt) (All-cons Q (name, now) back got (λ k d lt. kept _ (back_free k d lt) ∙ back_own k d lt));
+          own = All-append Q front ((name, now) ∷ back) (λ k d lt. kept _ (front_free k d lt) ∙ front_own k d lt)
+              (All-cons Q (name, now) back got (λ k d lt. kept _ (back_free k d lt) ∙ back_own k d lt));
           others = λ n free.
               let R : Output → Type 0 = λ o. o.0 ≢ n in
               let other : name ≢ n = All-head R (name, now) back (all_back R front ((name, now) ∷ back) free) in

@@ -6,6 +6,10 @@ use Rattle.soda_io.specs.declared.error.IoErr.{IoErr}
 abbrev pub Holding : Type 0
 Holding = List ℕ → Option (List ℕ)
 
+-- a name that is there, whatever it holds
+abbrev pub IsThere : Holding → List ℕ → Type 0
+IsThere holding name = (bytes : List ℕ) × (holding name ≡ Some bytes)
+
 -- an output that holds nothing
 abbrev pub emptied : List ℕ → List ℕ × List ℕ
 emptied name = (name, [])
@@ -32,7 +36,8 @@ pub record PutsFront (old new bytes : List ℕ) (result : Result (Unit {0}) IoEr
   pub all : OnOk result (count ≡ length bytes)
   pub put : new ≡ old ++ take count bytes
 
--- the output of this name, which stands between these others and held `so_far`, gets a prefix of the bytes; no other changes
+-- the output of this name, which stands between these others and held `so_far`, gets a prefix of the bytes; no other
+-- changes
 pub record PutsTo (before after : Holding) (front : List (List ℕ × List ℕ)) (name so_far : List ℕ)
     (back : List (List ℕ × List ℕ)) (bytes : List ℕ) (result : Result (Unit {0}) IoErr) : Type 0 where
   pub now : List ℕ

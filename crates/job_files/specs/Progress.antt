@@ -58,8 +58,8 @@ pub record MetTheEnd (gs : List (Option ℕ)) : Type 0 where
   pub last : gs ≡ before ++ Some 0 ∷ []
   pub none : MetNoEnd before
 
--- Of the files that have the ids from `first` on, the first `ended` were read to their ends and no further; the next one
--- wasn't read to its end, and those behind it weren't read at all.
+-- Of the files that have the ids from `first` on, the first `ended` were read to their ends and no further; the next
+-- one wasn't read to its end, and those behind it weren't read at all.
 pub record AreReadOut (first ended : ℕ) (entries : List FileCall) : Type 0 where
   pub out : (n : ℕ) → n < ended → MetTheEnd (gots (first + n) entries)
   pub next : MetNoEnd (gots (first + ended) entries)
@@ -71,8 +71,8 @@ pub record IsIdOf (s : Store) (id : ℕ) (f : JobFile) (read : ℕ) : Type 0 whe
   pub opened : s.opened id ≡ f.opened
   pub place : s.place id ≡ read
 
--- These calls asked for exactly these files, in order, the n-th got the n-th id from `first` on, and none of them failed.
--- The first `ended` of the files were read to their ends. Of the n-th file `places n` bytes were read.
+-- These calls asked for exactly these files, in order, the n-th got the n-th id from `first` on, and none of them
+-- failed. The first `ended` of the files were read to their ends. Of the n-th file `places n` bytes were read.
 pub record GoesWell (first : ℕ) (files : List JobFile) (ended : ℕ) (places : ℕ → ℕ) (given : ℕ) (now : Store)
     (entries : List FileCall) : Type 0 where
   pub count : given ≡ first + length files
@@ -92,16 +92,16 @@ pub record Progress (first : ℕ) (begun : Store) (files : List JobFile) (ended 
   pub calls : now.calls ≡ begun.calls ++ entries
   pub well : GoesWell first files ended places given now entries
 
--- `those` files were given, and then this call failed, on the n-th of all: it asked for one more file, which is the last of
--- all and wasn't given, or it read or wrote the n-th of those
+-- those files were given, and then this call failed, on the n-th of all: it asked for one more file, which is the last
+-- of all and wasn't given, or it read or wrote the n-th of those
 pub data Fails (first ended : ℕ) (files : List JobFile) (n : ℕ) (those : List JobFile) (last : FileCall) : Type 0 where
   refused : (f : JobFile) → files ≡ those ++ f ∷ [] → n ≡ length those → IsRefusedAsking f last
       → Fails first ended files n those last
   failed : files ≡ those → n < length those → IsFailedUse (first + n) (first + ended) last
       → Fails first ended files n those last
 
--- Since the job began exactly these files were asked for, and the last call of all failed: it was on the n-th of them. All
--- calls before it went well.
+-- Since the job began exactly these files were asked for, and the last call of all failed: it was on the n-th of them.
+-- All calls before it went well.
 pub record Stuck (first : ℕ) (begun : Store) (files : List JobFile) (ended n : ℕ) (places : ℕ → ℕ)
     (given : ℕ) (now : Store) : Type 0 where
   pub those : List JobFile

@@ -1,14 +1,14 @@
 //! The files of a job: asked for in order, read to their ends and written, with how far the job is after each step.
 #![tactic(auto)]
 
-mod asking;
-mod asking_all;
+mod creating;
 mod fail;
+mod opening;
 mod reading;
 mod writing;
 
-pub use asking::{create_next, open_next};
-pub use asking_all::{create_all, open_all};
+pub use creating::{create_all, create_next};
 pub use fail::StepFail;
+pub use opening::{open_all, open_next};
 pub use reading::read_next;
 pub use writing::write_to;
