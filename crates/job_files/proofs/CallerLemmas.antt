@@ -1,12 +1,15 @@
 -- Lemmas that crates above cite.
-use Rattle.std.proofs.Common.{◌≡◌, ◌<◌, ℕ, ◌+◌, List, [], length, slice_get, drop, Option, Some, unwrap_or, refl, sym, ap, ◌∙◌, arith}
-use Rattle.std.proofs.lemmas.List.{append-nil}
+use Rattle.std.proofs.Common.{◌≡◌, ◌<◌, ℕ, zero, suc, ◌+◌, List, [], length, slice_get, get_or, take, drop, Option, Some, unwrap_or, refl, sym, ap, ◌∙◌, arith, ◌++◌, ◌∷◌}
+use Rattle.std.proofs.lemmas.List.{append-nil, append_cancel_left}
 use Rattle.std.proofs.lemmas.List.Elements.{All-nil}
 use Rattle.std.proofs.lemmas.Option.{slice_get_within}
+use Rattle.soda_io.specs.declared.call.FileCall.{FileCall}
 use Rattle.soda_io.specs.Store.{Store, content, left}
 use Rattle.job_files.specs.Contents.{Holding, Holds}
-use Rattle.job_files.specs.Files.{JobFile}
-use Rattle.job_files.specs.Progress.{IsDone, Progress}
+use Rattle.job_files.specs.Files.{JobFile, created_of, ids_from}
+use Rattle.job_files.specs.Progress.{IsDone, Progress, Stuck, created}
+use Rattle.job_files.specs.Steps.{Moves}
+use Rattle.job_files.proofs.Created.{created-append, created_by, fault_none, those_first}
 
 -- a job that has asked for nothing yet
 pub begin : (first : ℕ) (begun : Store) → Progress first begun [] 0 (λ n. 0) first begun
@@ -41,9 +44,40 @@ module _ (first : ℕ) (begun : Store) (files : List JobFile) (ended : ℕ) (pla
 
   -- where nothing was read of it, all that its name holds is left
   pub whole_left : places n ≡ 0 → left now (first + n) ≡ unwrap_or (now.bytes f.name) []
-  whole_left zero =
-      let at : now.place (first + n) ≡ 0 = (p.well.ids n f is).place ∙ zero in
+  whole_left none =
+      let at : now.place (first + n) ≡ 0 = (p.well.ids n f is).place ∙ none in
       ap (λ (k : ℕ). drop k (content now (first + n))) at ∙ ap (λ (name : List ℕ). unwrap_or (now.bytes name) []) id_name
+
+-- behind a file that was read to its end, nothing was read of the next one
+pub next_unread : (first : ℕ) (begun : Store) (files : List JobFile) (ended : ℕ) (places : ℕ → ℕ) (given : ℕ) (now : Store)
+    → Progress first begun files ended places given now → (after : ℕ → ℕ) (place : ℕ) → Moves places after ended place → after (ended + 1) ≡ 0
+next_unread first begun files ended places given now p after place m = m.others (ended + 1) (λ e. absurd (omega arith))
+    ∙ p.well.unread (ended + 1) (omega arith)
+
+-- the ids of a list of files
+pub ids_at : (id count n d : ℕ) → n < count → get_or (ids_from id count) n d ≡ id + n
+ids_at id zero n d lt = absurd (omega arith)
+ids_at id (suc count) zero d lt = omega arith
+ids_at id (suc count) (suc n) d lt = let e : id + 1 + n ≡ id + suc n = omega arith in ids_at (id + 1) count n d (omega arith) ∙ e
+
+-- the names that were created since the job began
+pub created_names : (first : ℕ) (begun : Store) (files : List JobFile) (ended : ℕ) (places : ℕ → ℕ) (given : ℕ) (now : Store)
+    → Progress first begun files ended places given now → (entries : List FileCall) → now.calls ≡ begun.calls ++ entries → created entries ≡ created_of files
+created_names first begun files ended places given now p entries calls =
+    let same : entries ≡ p.entries = append_cancel_left begun.calls entries p.entries (sym calls ∙ p.calls) in
+    ap created same ∙ created_by first files p.entries p.well.asked
+
+-- where a call failed: those of the files that were given
+pub created_until : (first : ℕ) (begun : Store) (files : List JobFile) (ended n : ℕ) (places : ℕ → ℕ) (given : ℕ) (now : Store)
+    → Stuck first begun files ended n places given now → (entries : List FileCall) → now.calls ≡ begun.calls ++ entries
+    → (count : ℕ) → given ≡ first + count → created entries ≡ created_of (take count files)
+created_until first begun files ended n places given now s entries calls count is =
+    let same : entries ≡ s.before ++ s.last ∷ [] = append_cancel_left begun.calls entries (s.before ++ s.last ∷ []) (sym calls ∙ s.calls) in
+    let long : length s.those ≡ count = omega (arith, s.well.count) in
+    ap created same ∙ created-append s.before (s.last ∷ [])
+        ∙ ap (λ (ns : List (List ℕ)). created s.before ++ ns) (fault_none first ended files n s.those s.last s.fails)
+    ∙ append-nil (created s.before) ∙ created_by first s.those s.before s.well.asked
+    ∙ ap created_of (sym (those_first first ended files n s.those s.last s.fails) ∙ ap (λ (k : ℕ). take k files) long)
 
 -- no output yet
 pub holds_none : (before : Holding) → Holds before before []

@@ -5,3 +5,4 @@ pub mod Advancing
 pub mod Outputs
 pub mod Listed
 pub mod Emptying
+pub mod Created

@@ -1,5 +1,5 @@
 -- The files of a job.
-use Rattle.std.specs.Prelude.{◌≡◌, ℕ, zero, suc, ◌+◌, Bool, List, [], ◌∷◌, map, slice_get, Some}
+use Rattle.std.specs.Prelude.{◌≡◌, ℕ, zero, suc, ◌+◌, Bool, List, [], ◌∷◌, map, slice_get, Some, if◌then◌else◌}
 use Rattle.std.specs.Borrow.{Bor}
 use Rattle.soda_io.specs.declared.role.FileRole.{FileRole}
 
@@ -16,6 +16,11 @@ asking f = (f.opened, f.name)
 -- the n-th of the files has this role
 abbrev pub HasRole : List JobFile → ℕ → FileRole → Type 0
 HasRole files n role = slice_get (map (λ f. f.role) files) n ≡ Some role
+
+-- the names of those of the files that are created
+abbrev pub created_of : List JobFile → List (List ℕ)
+created_of [] = []
+created_of (f ∷ fs) = if f.opened then created_of fs else f.name ∷ created_of fs
 
 -- so many ids, from this one on
 abbrev pub ids_from : ℕ → ℕ → List ℕ

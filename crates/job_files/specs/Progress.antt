@@ -19,6 +19,15 @@ abbrev pub given_from : ℕ → List JobFile → List (Bool × List ℕ × Optio
 given_from id [] = []
 given_from id (f ∷ fs) = (f.opened, f.name, Some id) ∷ given_from (id + 1) fs
 
+-- the names that calls created, in order
+abbrev pub created : List FileCall → List (List ℕ)
+created [] = []
+created (Create name (Some id) ∷ es) = name ∷ created es
+created (Create name None ∷ es) = created es
+created (Open name id ∷ es) = created es
+created (Read id asked got ∷ es) = created es
+created (Write id given taken ∷ es) = created es
+
 -- a call that didn't fail; a read or a write is by one of so many ids, of which this is the first
 abbrev pub IsDone : ℕ → ℕ → FileCall → Type 0
 IsDone first count (Open name (Some id)) = Unit {0}
