@@ -1,6 +1,6 @@
 -- Lemmas that crates above cite.
-use Rattle.std.proofs.Common.{◌≡◌, ◌<◌, ℕ, zero, suc, ◌+◌, List, [], length, slice_get, get_or, take, drop, Option, Some, unwrap_or, refl, sym, ap, ◌∙◌, arith, ◌++◌, ◌∷◌}
-use Rattle.std.proofs.lemmas.List.{append-nil, append_cancel_left}
+use Rattle.std.proofs.Common.{◌≡◌, ◌<◌, ℕ, zero, suc, ◌+◌, List, [], length, slice_get, get_or, take, drop, Option, Some, unwrap_or, refl, sym, ap, ◌∙◌, arith, ◌++◌, ◌∷◌, ◌≤◌, length-append}
+use Rattle.std.proofs.lemmas.List.{append-nil, append_cancel_left, length-take}
 use Rattle.std.proofs.lemmas.List.Elements.{All-nil}
 use Rattle.std.proofs.lemmas.Option.{slice_get_within}
 use Rattle.soda_io.specs.declared.call.FileCall.{FileCall}
@@ -75,9 +75,17 @@ created_until first begun files ended n places given now s entries calls count i
     let same : entries ≡ s.before ++ s.last ∷ [] = append_cancel_left begun.calls entries (s.before ++ s.last ∷ []) (sym calls ∙ s.calls) in
     let long : length s.those ≡ count = omega (arith, s.well.count) in
     ap created same ∙ created-append s.before (s.last ∷ [])
-        ∙ ap (λ (ns : List (List ℕ)). created s.before ++ ns) (fault_none first ended files n s.those s.last s.fails)
+    ∙ ap (λ (ns : List (List ℕ)). created s.before ++ ns) (fault_none first ended files n s.those s.last s.fails)
     ∙ append-nil (created s.before) ∙ created_by first s.those s.before s.well.asked
     ∙ ap created_of (sym (those_first first ended files n s.those s.last s.fails) ∙ ap (λ (k : ℕ). take k files) long)
+
+-- Where memory was refused, as many of the files were asked for as ids were given.
+pub as_many_as_given : (first : ℕ) (begun : Store) (files more : List JobFile) (ended : ℕ) (places : ℕ → ℕ) (given : ℕ) (now : Store) (count : ℕ)
+    → count ≤ length more
+    → Progress first begun (files ++ take count more) ended places given now → (before ids : ℕ) → before ≡ first + length files → given ≡ before + ids
+    → count ≡ ids
+as_many_as_given first begun files more ended places given now count within p before ids was is = omega
+    (arith, p.well.count, length-append files (take count more), length-take count more)
 
 -- no output yet
 pub holds_none : (before : Holding) → Holds before before []

@@ -6,3 +6,4 @@ pub mod Outputs
 pub mod Listed
 pub mod Emptying
 pub mod Created
+mod Examples
