@@ -28,9 +28,10 @@ pub record ReadsWhole (given : ℕ) (old new : Store) (id most : ℕ) (result : 
   pub ids : KeepsIds given old new
   pub bytes : KeepsBytes old new
   pub others : (k : ℕ) → k < given → k ≢ id → new.place k ≡ old.place k
-  -- the bytes that were taken, and what is left behind them
+  -- the bytes that were taken, what is left behind them, and the place of the id
   pub taken : List ℕ
   pub got : left old id ≡ taken ++ left new id
+  pub place : new.place id ≡ old.place id + length taken
   pub amount : TakesUpTo most taken result
   -- the journal's new entries: the reads that got bytes, and the last
   pub entries : List FileCall

@@ -1,5 +1,5 @@
 -- What the reads and writes of a loop have done so far.
-use Rattle.std.specs.Prelude.{◌≡◌, ◌≢◌, ℕ, ◌<◌, List, ◌++◌, take, Some, All}
+use Rattle.std.specs.Prelude.{◌≡◌, ◌≢◌, ℕ, ◌+◌, ◌<◌, List, ◌++◌, length, take, Some, All}
 use Rattle.soda_io.specs.declared.call.FileCall.{FileCall}
 use Rattle.soda_io.specs.Store.{Store, KeepsIds, KeepsBytes, KeepsPlaces, left}
 use Rattle.whole_files.specs.Journal.{IsGot, IsTaken}
@@ -10,6 +10,7 @@ pub record Took (given : ℕ) (old new : Store) (id : ℕ) (taken : List ℕ) : 
   pub bytes : KeepsBytes old new
   pub others : (k : ℕ) → k < given → k ≢ id → new.place k ≡ old.place k
   pub got : left old id ≡ taken ++ left new id
+  pub place : new.place id ≡ old.place id + length taken
   -- the journal's new entries
   pub entries : List FileCall
   pub gots : All (IsGot id) entries

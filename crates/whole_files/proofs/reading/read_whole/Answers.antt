@@ -39,7 +39,7 @@ loop-block-preserved g c =
           let r = at _ _ _ _ _ _ _ _ _ c.loop-block.invariant.given refl (c.in-Ok.ensures.store told) in
           let P : List ℕ → Type 0 = λ xs. Took (g.F.Files.given c.args.files.now) a z c.args.id xs in
           subst P (sym (copied _ _ _ _ _ c.in-Ok.ensures.count c.in-Ok-extend_from_slice.ensures.items))
-          (took_more _ _ _ _ _ _ _ _ _ (c.loop-block.invariant.took told) r (omega (arith, c.in-Ok.count-test.1)));
+          (took_more _ _ _ _ _ _ _ _ _ (c.loop-block.invariant.took told) r (omega (arith, c.in-Ok.count-test.1)) c.in-Ok.ensures.count);
     }
 
 pub returns-in-Ok-eq0-clause-store : goal.returns-in-Ok-eq0-clause-store
@@ -71,5 +71,5 @@ returns-clause-too_long g c = λ told _. omega (arith, took_length _ _ _ _ _ (c.
 pub returns-in_default-clause-store : goal.returns-in_default-clause-store
 returns-in_default-clause-store g c = λ told.
     let r = at _ _ _ _ _ _ _ _ _ c.loop-block.invariant.given refl (c.in-Ok.ensures.store told) in
-    stopped _ _ _ _ _ _ c.requires.given (took_more _ _ _ _ _ _ _ _ _ (c.loop-block.invariant.took told) r (omega (arith, c.in-Ok.count-test.1))) _ refl
+    stopped _ _ _ _ _ _ c.requires.given (took_more _ _ _ _ _ _ _ _ _ (c.loop-block.invariant.took told) r (omega (arith, c.in-Ok.count-test.1)) c.in-Ok.ensures.count) _ refl
     (omega (arith, length-append c.loop-block.bytes.items (take c.in-Ok.count c.read.new.buf), length-take c.in-Ok.count c.read.new.buf, c.read.auto.buf, length-take (c.min-room.result + 1) c.loop-block.block, c.loop-block.bytes.ok.0, c.min-room.ensures))

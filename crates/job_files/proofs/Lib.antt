@@ -1,0 +1,9 @@
+pub mod CallerLemmas
+pub mod Entries
+pub mod Going
+pub mod Advancing
+pub mod Outputs
+pub mod Listed
+pub mod Emptying
+pub mod Created
+mod Examples

@@ -1,0 +1,4 @@
+pub mod Files
+pub mod Progress
+pub mod Contents
+pub mod Steps
