@@ -28,8 +28,12 @@ reads_of_program : gots 7 calls ≡ Some 3 ∷ Some 0 ∷ []
 reads_of_program = refl
 
 program_read_out : MetTheEnd (gots 7 calls)
-program_read_out = record { before = Some 3 ∷ []; last = refl; none = All-cons (λ (g : Option ℕ). g ≢ Some 0) (Some 3) [] (λ e. cc)
-    (All-nil (λ (g : Option ℕ). g ≢ Some 0)) }
+program_read_out = record {
+  before = Some 3 ∷ [];
+  last = refl;
+  none = All-cons (λ (g : Option ℕ). g ≢ Some 0) (Some 3) [] (λ e. cc)
+      (All-nil (λ (g : Option ℕ). g ≢ Some 0));
+}
 
 output_unread : gots 9 calls ≡ []
 output_unread = refl
