@@ -10,8 +10,8 @@ use std::process::Abort;
 use std::test::Fail;
 
 // The words, separated by single blanks; the numbers of the calls on files that fail; how many parts of ten bytes
-// standard output takes, and the numbers of the writes to standard error that fail; the status; what both took; what `o`
-// holds afterwards; and the calls on files, a letter each.
+// standard output takes, and the numbers of the writes to standard error that fail; the status; what both took; what
+// `o` holds afterwards; and the calls on files, a letter each.
 type Row = (
     &'static str,
     &'static [u64],

@@ -1,6 +1,6 @@
 //! Programs as data: parts that no text gives, and formulas over any cells.
 
-ghost use Rattle.std.specs.Prelude.pos;
+ghost use Rattle.std.specs.Prelude.{pos};
 
 use arrayvec::ArrayVec;
 use soda_eval::{Cells, eval};
