@@ -1,14 +1,10 @@
-//! Programs as data: parts that no text gives, and formulas over any cells.
-
-ghost use Rattle.std.specs.Prelude.{pos};
+//! Programs as data: parts that no text gives.
 
 use arrayvec::ArrayVec;
-use soda_eval::{Cells, eval};
-use soda_ir::{Border, Expr, MakeRefusal, NoMemory, Offset, Parts, Program, Role, Tensor};
+use soda_ir::{Border, Expr, MakeRefusal, NoMemory, Parts, Program, Role, Tensor};
 use soda_words::{BinOp, Ty, int32};
 use sqlite_items::{Boxed, Items};
 use std::alloc::Global;
-use std::test::Fail;
 
 // A formula: none, a number, a cell of a tensor, a param's value, or the sum of a cell of tensor 0 and a number.
 #[derive(Clone, Copy)]
@@ -123,25 +119,4 @@ fn programs_are_made(rt: HostRuntime) {
         };
         assert_eq!(rt; is_made, Some(wanted));
     }
-}
-
-struct Same;
-
-impl Cells for Same {
-    ghost value = { λ s t o. pos 255 };
-
-    fn cell(&self, _tensor: u32, _offset: &Offset) -> i128 {
-        255
-    }
-}
-
-#[test]
-fn formulas_by_any_cells(rt: HostRuntime) -> Result<(), Fail> {
-    let program = made(rt.alloc(), b"k", &[IN, OUT])?;
-    let formula = Expr::Num(765);
-    let value = eval(&program, &formula, &Same, &[]);
-    drop(formula);
-    drop(program);
-    assert_eq!(rt; value, 765);
-    Ok(())
 }
