@@ -158,8 +158,8 @@ pub fn fill_burst(width: u64, tensors: &[Tensor]) -> bool
     true
 }
 
-/// Whether each tensor has a formula exactly where it is no input, and each formula names what is there, at offsets that
-/// may be, and keeps the size rules.
+/// Whether each tensor has a formula exactly where it is no input, and each formula names what is there, at offsets
+/// that may be, and keeps the size rules.
 pub(crate) fn have_good_formulas(parts: &Parts) -> bool
     ensures { result ≡ list_all (λ t. has_formula_if_no_input (plain_tensor t)
         && has_good_uses (plain parts.now) (plain_tensor t)
