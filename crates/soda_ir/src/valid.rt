@@ -26,8 +26,8 @@ use soda_words::{
 };
 use std::alloc::Global;
 
-/// Whether the unroll factor, the number of iterations, the burst width and the numbers of dimensions and of tensors are
-/// within their limits.
+/// Whether the unroll factor, the number of iterations, the burst width, and how many dimensions and tensors there are
+/// keep their limits.
 pub(crate) fn has_good_numbers(parts: &Parts) -> bool
     ensures { result ≡ ((nat_le 1 parts.now.unroll && nat_le parts.now.unroll most_unroll)
         && (nat_le 1 parts.now.iterate && nat_le parts.now.iterate most_iterate)
