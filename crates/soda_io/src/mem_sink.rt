@@ -60,6 +60,7 @@ impl Sink for MemSink {
         ensures count { IfOk result (λ n. (0 < n) × (n ≤ length bytes.now)) }
         ensures taken { ⊤ → Takes (sink_taken self.old) (sink_taken self.new) bytes.now result }
         ensures cause { HasCause (sink_faults self.old) (sink_faults self.new) result }
+        ensures spared { IsErrOf result IoErr.Memory → sink_faults self.new ≡ sink_faults self.old }
 
         // It fails exactly where its number is listed.
         ensures failed { IsErrOf result IoErr.Failed → NextWriteFails self.old }

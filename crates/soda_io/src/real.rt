@@ -1,5 +1,5 @@
 // The real files and streams. They keep a count of what failed.
-ghost use Rattle.std.specs.Prelude.{◌≡◌, ◌<◌, ◌≤◌, ◌+◌, ◌^◌, [], length, vec_len, vec_capacity, unwrap_or, IfOk, OnOk};
+ghost use Rattle.std.specs.Prelude.{◌≡◌, ◌<◌, ◌≤◌, ◌+◌, ◌^◌, [], length, vec_len, vec_capacity, unwrap_or, IfOk, OnOk, IsErrOf};
 ghost use Rattle.soda_io.specs.Bytes.{Takes, Tells};
 ghost use Rattle.soda_io.specs.Cause.{HasCause, IsCountOfErrors};
 ghost use Rattle.soda_io.specs.Limits.{most_ids};
@@ -56,6 +56,7 @@ impl<W: Write + Drop> Sink for StdSink<W> {
             Takes (unwrap_or (W.contents self.old.writer) []) (unwrap_or (W.contents self.new.writer) []) bytes.now
             result }
         ensures cause { HasCause self.old.faults self.new.faults result }
+        ensures spared { IsErrOf result IoErr.Memory → self.new.faults ≡ self.old.faults }
         ensures faults { IsCountOfErrors self.old.faults self.new.faults result }
     {
         match self.writer.write(bytes).ok() {

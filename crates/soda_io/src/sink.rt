@@ -1,4 +1,4 @@
-ghost use Rattle.std.specs.Prelude.{ℕ, ◌<◌, ◌≤◌, ◌^◌, List, length, IfOk};
+ghost use Rattle.std.specs.Prelude.{◌≡◌, ℕ, ◌<◌, ◌≤◌, ◌^◌, List, length, IfOk, IsErrOf};
 ghost use Rattle.soda_io.specs.Bytes.{Takes};
 ghost use Rattle.soda_io.specs.Cause.{HasCause};
 
@@ -22,7 +22,8 @@ pub trait Sink {
         requires { 0 < length bytes.now }
         ensures count { IfOk result (λ n. (0 < n) × (n ≤ length bytes.now)) }
         ensures taken { tells → Takes (taken self.old) (taken self.new) bytes.now result }
-        ensures cause { HasCause (faults self.old) (faults self.new) result };
+        ensures cause { HasCause (faults self.old) (faults self.new) result }
+        ensures spared { IsErrOf result IoErr.Memory → faults self.new ≡ faults self.old };
 
     /// A count of 64 bits.
     ghost below: { (s : Self) → faults s < 2 ^ 64 };

@@ -1,5 +1,6 @@
-use Rattle.std.proofs.Common.{ℕ, ◌++◌, List, take, refl, sym, ap, ◌∙◌, arith, append_assoc}
+use Rattle.std.proofs.Common.{◌≡◌, ℕ, ◌++◌, List, Err, take, refl, sym, ap, ◌∙◌, arith, append_assoc}
 use Rattle.std.proofs.lemmas.List.{append-nil}
+use Rattle.soda_io.specs.declared.error.IoErr.TheVariants.{Memory}
 use Rattle.whole_files.proofs.WriteSteps.{rest, length_rest, take_rest}
 use Rattle.whole_files.proofs.sinking.put_whole.Goals as goal
 
@@ -20,6 +21,11 @@ loop-done-preserved g c =
 
 pub returns-in-Err-clause-taken : goal.returns-in-Err-clause-taken
 returns-in-Err-clause-taken g c = λ told. record { count = c.loop-done.done; at_most = c.loop-done.invariant.done; all = tt; taken = c.in-Err.ensures.taken told ∙ c.loop-done.invariant.taken told }
+
+pub returns-in-Err-clause-spared : goal.returns-in-Err-clause-spared
+returns-in-Err-clause-spared g c = λ want.
+    let is : c.in-Err.fault ≡ Memory = cc in
+    c.in-Err.ensures.spared (ap Err is) ∙ c.loop-done.invariant.faults
 
 pub returns-clause-taken : goal.returns-clause-taken
 returns-clause-taken g c = λ told. record { count = c.loop-done.done; at_most = c.loop-done.invariant.done; all = omega arith; taken = c.loop-done.invariant.taken told }

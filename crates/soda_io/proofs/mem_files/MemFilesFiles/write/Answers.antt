@@ -1,6 +1,5 @@
 use Rattle.std.proofs.Common.{◌<◌, arith, length, ◌≡◌, ℕ, ◌++◌, [], List, unwrap_or, true, sym, ap, subst, ◌∙◌, Some, Ok, Err}
 use Rattle.std.specs.Option.{is_some}
-use Rattle.soda_io.specs.declared.mem_id.MemId.{MemId}
 use Rattle.soda_io.specs.declared.call.FileCall.TheVariants.{Write}
 use Rattle.soda_io.specs.declared.error.IoErr.TheVariants.{Memory}
 use Rattle.soda_io.specs.Held.{held}
