@@ -153,3 +153,7 @@ are_sum_tensors (i ∷ o ∷ t ∷ ts) = false
 -- one iteration over one dimension, with no param
 abbrev pub has_sum_frame : PlainProgram → Bool
 has_sum_frame p = p.iterate == 1 && not (preserves p) && length p.params == 0 && length p.extents == 0
+
+-- the test of a program of one sum: of a valid program it is true exactly where `IsSumProgram` holds
+abbrev pub is_sum_program : PlainProgram → Bool
+is_sum_program p = has_sum_frame p && are_sum_tensors p.tensors

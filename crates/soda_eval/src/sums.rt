@@ -11,6 +11,7 @@ ghost use Rattle.soda_eval.specs.Sums.{
   is_sum_input,
   is_sum_operator,
   is_sum_output,
+  is_sum_program,
   is_uint8,
 };
 ghost use Rattle.soda_ir.specs.Tree.{formula_of};
@@ -145,7 +146,8 @@ fn has_sum_frame(parts: &Parts) -> bool
 
 /// Whether this is a program of one sum over one input: the programs that can be run so far.
 pub fn is_sum_program(program: &Program) -> bool
-    ensures { IsTrue result ↔ IsSumProgram (plain program.now) }
+    ensures sum { IsTrue result ↔ IsSumProgram (plain program.now) }
+    ensures test { result ≡ is_sum_program (plain program.now) }
 {
     let parts = program.parts();
     let frame = has_sum_frame(parts);
