@@ -1,12 +1,8 @@
--- The definitions at small texts and words, by computation.
-use Rattle.std.proofs.Common.{◌≡◌, true, false, [], ◌∷◌, Some, None, pos, negsuc, codes, refl}
+-- The definitions at small texts, by computation.
+use Rattle.std.proofs.Common.{◌≡◌, [], ◌∷◌, Some, None, pos, negsuc, codes, refl}
 use Rattle.std.specs.Fmt.{digits}
 use Rattle.job_parts.specs.Cells.{array_text, all_cells_at, cell_line_at, cell_lines_at}
 use Rattle.job_parts.specs.Scan.{number_at}
-use Rattle.job_parts.specs.Words.{is_mode}
-
-modes : (is_mode (codes "plain") ≡ true) × (is_mode (codes "selftest") ≡ true) × (is_mode (codes "threads") ≡ false) × (is_mode (codes "Plain") ≡ false) × (is_mode [] ≡ false)
-modes = (refl, refl, refl, refl, refl)
 
 lines_of_cells : array_text 3 (pos 0 ∷ pos 4 ∷ pos 0 ∷ pos 0 ∷ pos 10 ∷ pos 0 ∷ []) ≡ codes "0 4 0\n0 10 0\n"
 unfolding digits

@@ -3,5 +3,4 @@ pub mod Fronts
 pub mod Lines
 pub mod Spelled
 pub mod CellLaws
-pub mod Numbered
 mod Examples

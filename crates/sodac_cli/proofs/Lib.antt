@@ -1,12 +1,21 @@
-pub mod Logs
-pub mod Texts
-pub mod Running
 pub mod Begun
-pub mod Contents
-pub mod Behind
-pub mod Causes
-pub mod Uncreated
 pub mod Reading
 pub mod Printing
+mod Judged
+mod OneDue
 pub mod Memory
-pub mod Asked
+pub mod Unasked
+pub mod Silent
+pub mod Completed
+pub mod Refused
+pub mod Ready
+pub mod Apart
+pub mod Numbered
+pub mod Counted
+pub mod Evaluated
+pub mod Opened
+pub mod Emptied
+pub mod AllAsked
+pub mod Gathered
+pub mod Written
+pub mod Permitted

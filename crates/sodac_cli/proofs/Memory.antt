@@ -1,42 +1,90 @@
 -- Want of memory in the place of a status.
-use Rattle.std.proofs.Common.{ℕ, Bool, List, ◌++◌, map, length, sym, ap, ◌∙◌, arith, inl, inr}
+use Rattle.std.proofs.Common.{◌≡◌, ◌≢◌, ◌⊎◌, ℕ, Bool, true, false, List, [], ◌∷◌, ◌++◌, length, Option, Some, None, refl, sym, ap, subst, ◌∙◌, arith, append-nil, inl, inr}
 use Rattle.std.proofs.lemmas.List.{take_all}
 use Rattle.soda_io.specs.Store.{Store}
+use Rattle.soda_ir.specs.Program.{PlainProgram}
+use Rattle.job_files.specs.Contents.{Holding}
+use Rattle.job_files.specs.Files.{JobFile}
+use Rattle.command_words.specs.declared.mode.Mode.{Mode}
+use Rattle.command_words.specs.declared.mode.Mode.TheVariants.{Check}
+use Rattle.command_words.specs.Orders.{Asked}
 use Rattle.sodac_cli.specs.declared.status.Status.{Status}
 use Rattle.sodac_cli.specs.declared.status.Status.TheVariants as is
-use Rattle.sodac_cli.specs.Job.{Job, JobFile}
-use Rattle.sodac_cli.specs.Journal.{Asks, Ends, asking}
-use Rattle.sodac_cli.specs.Meaning.{Holding}
-use Rattle.sodac_cli.specs.Printed.{Prints, printed}
+use Rattle.sodac_cli.specs.Correct.{Runs}
+use Rattle.sodac_cli.specs.Due.{DueFor, DueIf, DueOf, DueOver, MayAsk, MayAskFor, MayAskIf, accepted, asks_arrays, asks_program, refusal_of, refused}
+use Rattle.sodac_cli.specs.Endings.{AsksBy, AsksSome, AsksUntilDue, Ending, due, ending_of, file_fault, memory, out_fault}
+use Rattle.sodac_cli.specs.Printed.{Prints, PrintsAll, PrintsBy, PrintsPrefix, printed, prints}
+use Rattle.sodac_cli.specs.Work.{HasProgram, files_of, is_built, program_file}
+
+-- what holds of the own status and for want of memory holds of what is answered
+pub of_answer : (P : Status → Type 0) {Same : Type 0} (own answer : Status) → (answer ≡ own) ⊎ ((answer ≡ is.Memory) × Same) → P own → P is.Memory
+    → P answer
+of_answer P own answer (inl same) at_own at_memory = subst P (sym same) at_own
+of_answer P own answer (inr other) at_own at_memory = subst P (sym other.0) at_memory
+
+-- files that are asked for until a status is due may be asked for before want of memory
+module _ (h : Holding) (a : Asked) (files : List JobFile) (s : Status) where
+  abbrev Behind : PlainProgram → Option Status → Type 0
+  Behind p o = elim o [ None ↦ (files ≡ files_of a p) × DueOver h a p s | Some r ↦ (files ≡ program_file a ∷ []) × (s ≡ r) ]
+
+  may_behind : (p : PlainProgram) → HasProgram h a p → (o : Option Status) → refusal_of a p ≡ o → Behind p o → MayAsk h a files
+  may_behind p has None none d = asks_arrays p has none [] (sym d.0 ∙ sym (append-nil files))
+  may_behind p has (Some r) some d = asks_program d.0
+
+  may_of : DueOf h a files s → MayAsk h a files
+  may_of (refused text r there refuses all ends) = asks_program all
+  may_of (accepted p has d) = may_behind p has (refusal_of a p) refl d
+
+  may_if : (b : Bool) → DueIf b h a files s → MayAskIf b h a files
+  may_if true d = may_of d
+  may_if false d = d.0
+
+may_for : (h : Holding) (asked : Option Asked) (files : List JobFile) (s : Status) → DueFor h asked files s → MayAskFor h asked files
+may_for h None files s d = d.0
+may_for h (Some a) files s d = may_if h a files s (is_built a) d
 
 -- what was asked of the files
-module _ (g : ℕ) (a b : Store) (files : List JobFile) where
-  memory_ends : (made : List (Bool × List ℕ)) (s : Status) → Ends g a b files made s → Ends g a b files made is.Memory
-  memory_ends made is.Ok e = inl e.0
-  memory_ends made is.OutFault e = inl e.0
-  memory_ends made is.Memory e = e
-  memory_ends made is.Usage e = inl e
-  memory_ends made is.NotYetBuilt e = inl e
-  memory_ends made (is.Program r) e = inl e.0
-  memory_ends made (is.FileFault role) e = inr (e.0, e.1)
-
-  pub memory_asked : (Before : ℕ → Type 0) (s : Status) → Asks g a b files Before s → Asks g a b files Before is.Memory
-  memory_asked Before s l = record {
-    made = l.made;
-    rest = l.rest;
-    order = l.order;
-    only = l.only;
-    whole = λ y e. cc;
-    ends = memory_ends (map asking l.made) s l.ends;
+module _ (first : ℕ) (begun : Store) (asked : Option Asked) (given : ℕ) (now : Store) where
+  some_asked : (s : Status) → AsksUntilDue first begun asked given now s → AsksSome first begun asked given now
+  some_asked s j = record {
+    made = j.files;
+    may = may_for begun.bytes asked j.files s j.due;
+    ended = j.asks.ended;
+    places = j.asks.places;
+    progress = j.asks.progress;
+    few = j.asks.few;
   }
 
+  memory_asked : (e : Ending) (s : Status) → AsksBy first begun asked given now e s → AsksBy first begun asked given now memory is.Memory
+  memory_asked due s j = inl (some_asked s j)
+  memory_asked (file_fault role) s j = inr (role, j)
+  memory_asked out_fault s j = inl (some_asked is.Ok j)
+  memory_asked memory s j = j
+
+  pub memory_runs : (s : Status) → Runs first begun asked given now s → Runs first begun asked given now is.Memory
+  memory_runs s r = record { journal = memory_asked (ending_of s) s r.journal; files = r.files; delivered = λ e. absurd (cc) }
+
 -- what was printed
-pub memory_printed : (h : Holding) (j : Job) (old new : List ℕ) (s : Status) → Prints h j old new s → Prints h j old new is.Memory
-memory_printed h j old new is.Ok t =
-    inr (t.0, t.1, length (printed j t.0), t.2 ∙ ap (λ (xs : List ℕ). old ++ xs) (sym (take_all (length (printed j t.0)) (printed j t.0) (omega arith))))
-memory_printed h j old new is.OutFault t = inr t
-memory_printed h j old new is.Memory t = t
-memory_printed h j old new is.Usage t = inl t
-memory_printed h j old new is.NotYetBuilt t = inl t
-memory_printed h j old new (is.Program r) t = inl t
-memory_printed h j old new (is.FileFault role) t = inl t
+module _ (h : Holding) (a : Asked) (old new : List ℕ) where
+  all_printed : PrintsAll h a old new → (new ≡ old) ⊎ (PrintsPrefix h a old new)
+  all_printed t =
+      let lines = printed a.mode t.plain in
+      inr (record {
+        plain = t.plain;
+        program = t.program;
+        count = length lines;
+        some = t.all ∙ ap (λ (xs : List ℕ). old ++ xs) (sym (take_all (length lines) lines (omega arith)));
+      })
+
+  memory_by : (s : Status) → PrintsBy (ending_of s) h a old new s → (new ≡ old) ⊎ (PrintsPrefix h a old new)
+  memory_by is.Ok t = all_printed t
+  memory_by is.Usage t = inl t
+  memory_by (is.Program r) t = inl t
+  memory_by (is.FileFault role) t = inl t
+  memory_by is.OutFault t = inr t.1
+  memory_by is.Memory t = t
+  memory_by is.NotYetBuilt t = inl t
+
+pub memory_prints : (h : Holding) (asked : Option Asked) (old new : List ℕ) (s : Status) → Prints h asked old new s → Prints h asked old new is.Memory
+memory_prints h None old new s t = t
+memory_prints h (Some a) old new s t = memory_by h a old new s t

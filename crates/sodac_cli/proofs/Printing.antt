@@ -1,90 +1,59 @@
--- A job of `check` behind the reading of its program.
-use Rattle.std.proofs.Common.{◌≡◌, ℕ, true, List, [], ◌∷◌, ◌++◌, take, Result, Ok, refl, sym, ap, ◌∙◌, arith, inl}
-use Rattle.std.proofs.lemmas.List.{append-nil, take_all}
-use Rattle.soda_io.specs.declared.error.IoErr.{IoErr}
+-- A job of the mode `check` behind the reading of its program.
+use Rattle.std.proofs.Common.{◌≡◌, ℕ, true, List, [], ◌∷◌, ◌++◌, take, drop, Some, None, refl, sym, ap, subst, ◌∙◌}
+use Rattle.std.proofs.Math.Seq.{drop-nil, take-nil}
 use Rattle.soda_io.specs.Store.{Store}
-use Rattle.whole_files.specs.Sinking.{TakesFront}
 use Rattle.soda_ir.specs.Program.{PlainProgram}
-use Rattle.soda_print.specs.Canonical.{canonical}
-use Rattle.sodac_cli.specs.declared.status.Status.{Status}
+use Rattle.soda_eval.specs.Runs.{cells_at}
+use Rattle.command_words.specs.declared.mode.Mode.{Mode}
+use Rattle.command_words.specs.declared.mode.Mode.TheVariants.{Check}
+use Rattle.command_words.specs.Orders.{Asked}
 use Rattle.sodac_cli.specs.declared.status.Status.TheVariants as is
-use Rattle.sodac_cli.specs.Answers.{Allows, IsOfProgram, OutFaults}
-use Rattle.sodac_cli.specs.Job.{Job, PlainJob, check_job, job_files, plain_job}
-use Rattle.sodac_cli.specs.Journal.{AreDone}
-use Rattle.sodac_cli.specs.Meaning.{Holding, IsFine, Tells}
-use Rattle.sodac_cli.specs.Printed.{Prints, PrintsAll, PrintsFront}
-use Rattle.sodac_cli.specs.Stages.{Goes, Stops}
-use Rattle.sodac_cli.proofs.Behind.{first_only}
-use Rattle.sodac_cli.proofs.Causes.{accepted_only}
-use Rattle.sodac_cli.proofs.Uncreated.{read_leaves}
+use Rattle.sodac_cli.specs.Correct.{Runs}
+use Rattle.sodac_cli.specs.Due.{DueOf, accepted, done, first_refusal, refusal_of, stages_of}
+use Rattle.sodac_cli.specs.Machine.Steps.{IsRead}
+use Rattle.sodac_cli.specs.Outputs.{Delivers, DeliversIf}
+use Rattle.sodac_cli.specs.Work.{HasInputs, HoldCells, files_of, input_count, input_names, inputs_from, is_built, outputs_from, program_file, rows_of, writes_arrays}
+use Rattle.sodac_cli.proofs.Begun.{due_built, due_over}
+use Rattle.sodac_cli.proofs.Reading.{read_asks, read_due, read_leaves, read_memory}
 
-module _ (g : ℕ) (a b : Store) (name : List ℕ) (p : PlainProgram) (w : Goes g a b (check_job name) p) where
-  done : AreDone g (job_files (check_job name)) ((true, name) ∷ []) w.log.clean.entries
-  done = record { all = refl; out = (λ o. w.end, tt) }
+-- what a job of `check` does with the files
+module _ (p : PlainProgram) (first : ℕ) (begun : Store) (a : Asked) (given : ℕ) (now : Store) (mode : a.mode ≡ Check)
+    (built : is_built a ≡ true) (no_names : a.names ≡ []) (w : IsRead first begun a p given now) where
+  none : refusal_of a p ≡ None
+  none = ap (λ (m : Mode). first_refusal (stages_of m) a p) mode
 
-  fine : IsFine a.bytes (check_job name)
-  fine = record { begun = record { plain = p; program = w.program; built = tt; few = tt }; input = tt }
+  no_inputs : input_names a p ≡ []
+  no_inputs = ap (λ (names : List (List ℕ)). take (input_count p) names) no_names ∙ take-nil (input_count p)
 
-  pub printed_stops : Stops g a b (check_job name) is.Ok
-  printed_stops = record {
-    asks = record { made = job_files (check_job name); rest = []; order = refl; only = first_only g a b (check_job name); whole = λ y e. refl; ends = (w.log.clean, done) };
-    leaves = read_leaves a b w.keeps g (check_job name) w.log;
-    tells = (fine, tt);
-    only = accepted_only a.bytes (check_job name) p w.one w.unrefused b.bytes is.Ok (fine, tt);
+  no_outputs : drop (input_count p) a.names ≡ []
+  no_outputs = ap (λ (names : List (List ℕ)). drop (input_count p) names) no_names ∙ drop-nil (input_count p)
+
+  alone : program_file a ∷ [] ≡ files_of a p
+  alone = sym (ap (λ (names : List (List ℕ)). program_file a ∷ (inputs_from 0 names ++ outputs_from 0 (drop (input_count p) a.names))) no_inputs
+      ∙ ap (λ (names : List (List ℕ)). program_file a ∷ outputs_from 0 names) no_outputs)
+
+  inputs : HasInputs begun.bytes a p []
+  inputs = let P : List (List ℕ) → Type 0 = λ names. HoldCells begun.bytes (cells_at p (rows_of a)) names [] in subst P (sym no_inputs) tt
+
+  is_done : DueOf begun.bytes a (program_file a ∷ []) is.Ok
+  is_done = accepted p w.program (due_over begun.bytes a p (program_file a ∷ []) is.Ok none alone (done [] inputs))
+
+  delivered : Delivers begun.bytes now.bytes (Some a)
+  delivered = let P : Mode → Type 0 = λ m. DeliversIf (writes_arrays m) begun.bytes now.bytes a in subst P (sym mode) tt
+
+  pub check_done : Runs first begun (Some a) given now is.Ok
+  check_done = read_due first begun a given now built w.keeps w.asked.places w.asked.few w.asked.progress is.Ok refl is_done (λ e. delivered)
+
+  pub check_out_fault : Runs first begun (Some a) given now is.OutFault
+  check_out_fault = record {
+    journal = record {
+      files = program_file a ∷ [];
+      due = due_built begun.bytes a built (program_file a ∷ []) is.Ok is_done;
+      asks = read_asks first begun a given now built w.keeps w.asked.places w.asked.few w.asked.progress is.Ok;
+    };
+    files = read_leaves first begun a given now built w.keeps w.asked.places w.asked.few w.asked.progress;
+    delivered = λ e. absurd (cc);
   }
 
-  pub out_fault_stops : Stops g a b (check_job name) is.OutFault
-  out_fault_stops = record {
-    asks = record { made = job_files (check_job name); rest = []; order = refl; only = first_only g a b (check_job name); whole = λ y e. refl; ends = (w.log.clean, done) };
-    leaves = read_leaves a b w.keeps g (check_job name) w.log;
-    tells = fine;
-    only = accepted_only a.bytes (check_job name) p w.one w.unrefused b.bytes is.OutFault fine;
-  }
-
-  -- what a sink took of the canonical text
-  module _ (old new text : List ℕ) (is_text : text ≡ canonical p) where
-    pub all_printed : (u : Unit {0}) → TakesFront old new text (Ok u) → PrintsAll a.bytes (check_job name) old new
-    all_printed u t =
-        (p, w.program, t.taken ∙ ap (λ (xs : List ℕ). old ++ xs) (take_all t.count text (omega (arith, t.all)) ∙ is_text))
-
-    pub front_printed : (r : Result (Unit {0}) IoErr) → TakesFront old new text r → PrintsFront a.bytes (check_job name) old new
-    front_printed r t = (p, w.program, t.count, t.taken ∙ ap (λ (xs : List ℕ). old ++ take t.count xs) is_text)
-
--- a job that took nothing
-module _ (h : Holding) (old new : List ℕ) (same : new ≡ old) where
-  pub stopped_printed : (j : Job) (s : Status) → IsOfProgram s → Prints h j old new s
-  stopped_printed j is.Ok a = absurd a
-  stopped_printed j is.OutFault a = absurd a
-  stopped_printed j is.Memory a = inl same
-  stopped_printed j is.Usage a = absurd a
-  stopped_printed j is.NotYetBuilt a = absurd a
-  stopped_printed j (is.Program r) a = same
-  stopped_printed j (is.FileFault role) a = same
-
-  pub plain_printed : (after : Holding) (j : PlainJob) (s : Status) → Allows (plain_job j) s → Tells h after (plain_job j) s → Prints h (plain_job j) old new s
-  plain_printed after j is.Ok a t = (t.0.begun.plain, t.0.begun.program, same ∙ sym (append-nil old))
-  plain_printed after j is.OutFault a t = absurd a
-  plain_printed after j is.Memory a t = inl same
-  plain_printed after j is.Usage a t = same
-  plain_printed after j is.NotYetBuilt a t = same
-  plain_printed after j (is.Program r) a t = same
-  plain_printed after j (is.FileFault role) a t = same
-
--- a job that asked nothing of `out`
-pub stopped_out_faults : (n : ℕ) (s : Status) → IsOfProgram s → OutFaults n n s
-stopped_out_faults n is.Ok a = absurd a
-stopped_out_faults n is.OutFault a = absurd a
-stopped_out_faults n is.Memory a = tt
-stopped_out_faults n is.Usage a = absurd a
-stopped_out_faults n is.NotYetBuilt a = absurd a
-stopped_out_faults n (is.Program r) a = refl
-stopped_out_faults n (is.FileFault role) a = refl
-
-pub silent_out_faults : (n : ℕ) (j : PlainJob) (s : Status) → Allows (plain_job j) s → OutFaults n n s
-silent_out_faults n j is.Ok a = refl
-silent_out_faults n j is.OutFault a = absurd a
-silent_out_faults n j is.Memory a = tt
-silent_out_faults n j is.Usage a = absurd a
-silent_out_faults n j is.NotYetBuilt a = refl
-silent_out_faults n j (is.Program r) a = refl
-silent_out_faults n j (is.FileFault role) a = refl
+  pub check_memory : Runs first begun (Some a) given now is.Memory
+  check_memory = read_memory first begun a given now built w.keeps w.asked.places w.asked.few w.asked.progress

@@ -1,106 +1,169 @@
--- A job where its program was read, and where that ended it.
-use Rattle.std.proofs.Common.{◌≡◌, ℕ, List, Some, Result, Err, refl, ap, subst, ◌∙◌}
+-- The reading of a job's program.
+use Rattle.std.proofs.Common.{◌≡◌, ◌<◌, ◌≤◌, ℕ, ◌+◌, Bool, true, List, [], ◌∷◌, length, unwrap_or, Option, Some, Result, Ok, Err, IfOk, IsErrOf, refl, sym, ap, subst, ◌∙◌, arith}
+use Rattle.std.specs.Result.{IfErr}
 use Rattle.std.specs.Global.{Global}
 use Rattle.std.specs.declared.vec.Vec.{Vec}
-use Rattle.soda_io.specs.Store.{KeepsBytes, Store}
+use Rattle.soda_io.specs.declared.error.IoErr.{IoErr}
+use Rattle.soda_io.specs.declared.error.IoErr.TheVariants as io
 use Rattle.soda_io.specs.declared.role.FileRole.TheVariants.{Program}
-use Rattle.whole_files.specs.Journal.{gots}
+use Rattle.soda_io.specs.Store.{KeepsBytes, Store, left}
 use Rattle.whole_files.specs.declared.reading.ReadFail.{ReadFail}
-use Rattle.whole_files.specs.declared.reading.ReadFail.TheVariants as fail
-use Rattle.soda_ir.specs.Program.{PlainProgram}
-use Rattle.soda_parse.specs.Text.{Accepts, Refuses}
+use Rattle.whole_files.specs.declared.reading.ReadFail.TheVariants as read
+use Rattle.soda_words.specs.Limits.{most_text}
+use Rattle.soda_parse.specs.Text.{Refuses, too_long}
+use Rattle.soda_parse.specs.Fails.{IfRefused}
+use Rattle.soda_parse.specs.declared.reading.ParseFail.{ParseFail}
+use Rattle.soda_parse.specs.declared.reading.ParseFail.TheVariants.{Refused}
 use Rattle.soda_parse.specs.declared.refusal.Refusal.{Refusal}
 use Rattle.soda_parse.specs.declared.refusal.Refusal.TheVariants.{TextTooLong}
+use Rattle.job_files.specs.Contents.{IsThere}
+use Rattle.job_files.specs.Files.{JobFile, asking}
+use Rattle.job_files.specs.Progress.{Progress, Stuck}
+use Rattle.job_files.specs.Steps.{AsksNext, ReadsNext}
+use Rattle.job_files.proofs.CallerLemmas.{id_opened, whole_left}
+use Rattle.command_words.specs.Orders.{Asked}
+use Rattle.sodac_cli.specs.declared.status.Status.{Status}
 use Rattle.sodac_cli.specs.declared.status.Status.TheVariants as is
-use Rattle.sodac_cli.specs.Job.{Job, program_of}
-use Rattle.sodac_cli.specs.Journal.{IsAtEnd}
-use Rattle.soda_words.specs.Limits.{most_text}
-use Rattle.sodac_cli.specs.Meaning.{HasPassedLimit, IsBuilt, PassesItsLimit, limit}
-use Rattle.sodac_cli.specs.Stages.{Goes, ReadLog, Stops, TextBytes, TextLog}
-use Rattle.sodac_cli.proofs.Behind.{accepted_text, failed_first, form_not_begun, long_bytes, long_text, memory_first, none_or_first, not_program, not_refused, only_program, only_refused, refused_first, refused_text, unbuilt_first, unbuilt_form}
-use Rattle.sodac_cli.proofs.Causes.{accepted_only, long_first, long_none, refused_only}
-use Rattle.sodac_cli.proofs.Uncreated.{read_leaves, text_leaves}
+use Rattle.sodac_cli.specs.Correct.{Runs}
+use Rattle.sodac_cli.specs.Due.{DueOf, asks_none, asks_program, refused}
+use Rattle.sodac_cli.specs.Endings.{AsksAll, due, ending_of}
+use Rattle.sodac_cli.specs.Machine.Text.{HasText, unread_status}
+use Rattle.sodac_cli.specs.Outputs.{Delivers, Leaves}
+use Rattle.sodac_cli.specs.Work.{is_built, program_file, program_of}
+use Rattle.sodac_cli.proofs.Begun.{leaves_asked, leaves_stuck, runs_due, runs_fault, runs_memory}
 
--- the text can't be read, or is too long
-module _ (g : ℕ) (a b : Store) (name : List ℕ) (j : Job) (named : program_of j ≡ name) (keeps : KeepsBytes a b) where
-  log_of : (r : Result (Vec ℕ Global) ReadFail) → TextLog g a b name r → TextLog g a b (program_of j) r
-  log_of r l = let P : List ℕ → Type 0 = λ n. TextLog g a b n r in rw named l
+-- how the file of a name is asked for
+abbrev opening : List ℕ → Bool × List ℕ
+opening name = (true, name)
 
-  there_of : (bytes : List ℕ) → a.bytes name ≡ Some bytes → a.bytes (program_of j) ≡ Some bytes
-  there_of bytes there = ap (λ (n : List ℕ). a.bytes n) named ∙ there
+-- the program's file wasn't opened
+module _ (first : ℕ) (begun : Store) (name : List ℕ) (given : ℕ) (now : Store) (keeps : KeepsBytes begun now) (e : IoErr)
+    (asks : (f : JobFile) → asking f ≡ (true, name) → AsksNext first begun [] 0 (λ n. 0) given now f (Err e))
+    (a : Asked) (named : program_of a ≡ name) (built : is_built a ≡ true) where
+  abbrev Asks : IoErr → Type 0
+  Asks x = AsksNext first begun [] 0 (λ n. 0) given now (program_file a) (Err x)
 
-  pub long_stops : (e : ReadFail) → e ≡ fail.TooLong → TextLog g a b name (Err e) → TextBytes a name (Err e) → Stops g a b j (is.Program TextTooLong)
-  long_stops e same l t =
-      let long = long_bytes a name e same t in
-      let there = there_of long.0 long.1 in
-      let log = log_of (Err e) l in
-      let P : ReadFail → Type 0 = λ x. TextLog g a b (program_of j) (Err x) in
-      record {
-        asks = refused_first g a b j TextTooLong (subst P same log) (λ ne. absurd (ne refl));
-        leaves = text_leaves a b keeps g j e log;
-        tells = long_text a.bytes j long.0 there long.2;
-        only = refused_only a.bytes j TextTooLong (not_program a.bytes j long.0 there (long_none long.0 long.2)) (only_refused a.bytes j long.0 there TextTooLong (long_first long.0 long.2));
-      }
+  here : Asks e
+  here = asks (program_file a) (ap opening named)
 
-  pub failed_stops : (e : ReadFail) → e ≡ fail.Failed → TextLog g a b name (Err e) → Stops g a b j (is.FileFault Program)
-  failed_stops e same l =
-      let log = log_of (Err e) l in
-      let P : ReadFail → Type 0 = λ x. TextLog g a b (program_of j) (Err x) in
-      record { asks = failed_first g a b j (subst P same log); leaves = text_leaves a b keeps g j e log; tells = tt; only = tt }
+  pub unopened_fault : e ≡ io.Failed → Runs first begun (Some a) given now (is.FileFault Program)
+  unopened_fault same =
+      let s : Stuck first begun (program_file a ∷ []) 0 0 (λ n. 0) given now = let P : IoErr → Type 0 = λ x. Asks x in subst P same here in
+      runs_fault first begun a given now built (leaves_stuck first begun a given now keeps (program_file a ∷ []) 0 (λ n. 0) refl 0 s)
+      (program_file a ∷ []) (asks_program refl) 0 (λ n. 0) (omega arith) Program 0 refl s
 
-  pub memory_stops : (e : ReadFail) → e ≡ fail.Memory → TextLog g a b name (Err e) → Stops g a b j is.Memory
-  memory_stops e same l =
-      let log = log_of (Err e) l in
-      let P : ReadFail → Type 0 = λ x. TextLog g a b (program_of j) (Err x) in
-      record { asks = none_or_first g a b j (subst P same log); leaves = text_leaves a b keeps g j e log; tells = tt; only = tt }
+  pub unopened_memory : e ≡ io.Memory → Runs first begun (Some a) given now is.Memory
+  unopened_memory same =
+      let p : Progress first begun [] 0 (λ n. 0) given now = let P : IoErr → Type 0 = λ x. Asks x in subst P same here in
+      runs_memory first begun a given now built (leaves_asked first begun a given now keeps [] 0 (λ n. 0) refl p)
+      [] (asks_none refl) 0 (λ n. 0) (omega arith) p
 
-  -- it was read to its end
-  module _ (bytes : List ℕ) (there : a.bytes name ≡ Some bytes) (log : ReadLog g a b name) (end : IsAtEnd (gots g log.clean.entries)) where
-    both : (l : ReadLog g a b (program_of j)) × IsAtEnd (gots g l.clean.entries)
-    both = let P : List ℕ → Type 0 = λ n. (l : ReadLog g a b n) × IsAtEnd (gots g l.clean.entries) in rw named (log, end)
+-- it was opened
+module _ (first : ℕ) (begun : Store) (name : List ℕ) (before : ℕ) (mid : Store) (id : ℕ)
+    (opens : (f : JobFile) → asking f ≡ (true, name) → AsksNext first begun [] 0 (λ n. 0) before mid f (Ok id)) where
+  -- by its id all that it holds is left
+  abbrev file : JobFile
+  file = record { role = Program; opened = true; name = name }
 
-    pub refused_stops : (r : Refusal) → Refuses most_text bytes r → ((s : Refusal) → Refuses most_text bytes s → s ≡ r) → ((q : PlainProgram) → Accepts most_text bytes q → ⊥) → Stops g a b j (is.Program r)
-    refused_stops r refused first none = record {
-      asks = refused_first g a b j r both.0 (λ ne. both.1);
-      leaves = read_leaves a b keeps g j both.0;
-      tells = refused_text a.bytes j r bytes (there_of bytes there) refused;
-      only = refused_only a.bytes j r (not_program a.bytes j bytes (there_of bytes there) none) (only_refused a.bytes j bytes (there_of bytes there) r first);
-    }
+  pub text_opened : mid.opened id ≡ true
+  text_opened =
+      let w = opens file refl in
+      ap (λ (k : ℕ). mid.opened k) w.0 ∙ id_opened first begun (file ∷ []) 0 (λ n. 0) before mid w.1 0 file refl
 
-    pub parse_memory_stops : Stops g a b j is.Memory
-    parse_memory_stops = record { asks = memory_first g a b j both.0; leaves = read_leaves a b keeps g j both.0; tells = tt; only = tt }
+  module _ (opening_keeps : KeepsBytes begun mid) (is_there : IsThere begun.bytes name) where
+    text_left : begun.bytes name ≡ Some (left mid id)
+    text_left =
+        let w = opens file refl in
+        let whole : left mid id ≡ is_there.0 = ap (λ (k : ℕ). left mid k) w.0
+        ∙ whole_left first begun (file ∷ []) 0 (λ n. 0) before mid w.1 0 file refl refl
+        ∙ ap (λ (bytes : Option (List ℕ)). unwrap_or bytes []) (opening_keeps name ∙ is_there.1) in
+        is_there.1 ∙ ap (λ (bytes : List ℕ). Some bytes) (sym whole)
 
-    pub goes : (p : PlainProgram) → Accepts most_text bytes p → ((q : PlainProgram) → Accepts most_text bytes q → q ≡ p) → ((s : Refusal) → Refuses most_text bytes s → ⊥) → Goes g a b j p
-    goes p accepted one none = record {
-      log = both.0;
-      end = both.1;
-      keeps = keeps;
-      program = accepted_text a.bytes j bytes (there_of bytes there) p accepted;
-      one = only_program a.bytes j bytes (there_of bytes there) p one;
-      unrefused = not_refused a.bytes j bytes (there_of bytes there) none;
-    }
+    -- and was read, or that failed
+    module _ (given : ℕ) (now : Store) (reading_keeps : KeepsBytes mid now) where
+      abbrev Reads : Result (Vec ℕ Global) ReadFail → Type 0
+      Reads r = (asked : List JobFile) (ended : ℕ) (places : ℕ → ℕ) → id ≡ first + ended → ended < length asked
+          → Progress first begun asked ended places before mid → ReadsNext first begun asked ended places given now most_text r
 
--- the program was read, and that is as far as the job goes
-module _ (g : ℕ) (a b : Store) (j : Job) (p : PlainProgram) (w : Goes g a b j p) where
-  pub unbuilt_stops : (IsBuilt j p → ⊥) → Stops g a b j is.NotYetBuilt
-  unbuilt_stops none =
-      let why = unbuilt_form a.bytes j p w.program none in
-      record {
-        asks = unbuilt_first g a b j (form_not_begun a.bytes j p w.one none) w.log;
-        leaves = read_leaves a b w.keeps g j w.log;
-        tells = why;
-        only = accepted_only a.bytes j p w.one w.unrefused b.bytes is.NotYetBuilt why;
-      }
+      reads_program : (r : Result (Vec ℕ Global) ReadFail) → Reads r → (a : Asked) → program_of a ≡ name
+          → ReadsNext first begun (program_file a ∷ []) 0 (λ n. 0) given now most_text r
+      reads_program r reads a named =
+          let w = opens (program_file a) (ap opening named) in
+          reads (program_file a ∷ []) 0 (λ n. 0) w.0 (omega arith) w.1
 
-  pub limit_stops : (r : Refusal) → IsBuilt j p → PassesItsLimit j p r → Stops g a b j (is.Program r)
-  limit_stops r built passed =
-      let why : HasPassedLimit a.bytes j r = record { plain = p; program = w.program; built = built; passed = passed } in
-      record {
-        asks = refused_first g a b j r w.log (λ ne. w.end);
-        leaves = read_leaves a b w.keeps g j w.log;
-        tells = limit why;
-        only = accepted_only a.bytes j p w.one w.unrefused b.bytes (is.Program r) (limit why);
-      }
+      keeps : KeepsBytes begun now
+      keeps n = reading_keeps n ∙ opening_keeps n
 
-  pub memory_stops_behind : Stops g a b j is.Memory
-  memory_stops_behind = record { asks = memory_first g a b j w.log; leaves = read_leaves a b w.keeps g j w.log; tells = tt; only = tt }
+      text_there : (a : Asked) → program_of a ≡ name → begun.bytes (program_of a) ≡ Some (left mid id)
+      text_there a named = ap (λ (n : List ℕ). begun.bytes n) named ∙ text_left
+
+      pub text_goes : (r : Result (Vec ℕ Global) ReadFail) → Reads r → IfOk r (λ v. v.items ≡ left mid id)
+          → IfOk r (λ v. length v.items ≤ most_text)
+          → IfOk r (λ v. (a : Asked) → program_of a ≡ name → HasText first begun a given now v.items)
+      text_goes (Ok v) reads whole short = λ a named.
+          let m = reads_program (Ok v) reads a named in
+          record {
+            there = text_there a named ∙ ap (λ (bytes : List ℕ). Some bytes) (sym whole);
+            places = m.0;
+            few = omega (arith, m.1.own);
+            progress = m.2;
+            keeps = keeps;
+          }
+      text_goes (Err e) reads whole short = tt
+
+      pub text_ends : (r : Result (Vec ℕ Global) ReadFail) → Reads r → (IsErrOf r read.TooLong → most_text < length (left mid id))
+          → IfErr r (λ e. (a : Asked) → program_of a ≡ name → is_built a ≡ true → Runs first begun (Some a) given now (unread_status e))
+      text_ends (Ok v) reads long = tt
+      text_ends (Err read.TooLong) reads long = λ a named built.
+          let m = reads_program (Err read.TooLong) reads a named in
+          runs_due first begun a given now built (leaves_asked first begun a given now keeps (program_file a ∷ []) 0 m.0 refl m.2)
+          (program_file a ∷ []) (is.Program TextTooLong) refl
+          (refused (left mid id) TextTooLong (text_there a named) (too_long (long refl)) refl refl)
+          (record { ended = 0; places = m.0; progress = m.2; few = omega (arith, m.1.own); all = λ e. absurd (cc); some = λ ne. absurd (ne refl) })
+          (λ e. absurd (cc))
+      text_ends (Err read.Failed) reads long = λ a named built.
+          let m = reads_program (Err read.Failed) reads a named in
+          runs_fault first begun a given now built (leaves_stuck first begun a given now keeps (program_file a ∷ []) 0 m.0 refl 0 m.4)
+          (program_file a ∷ []) (asks_program refl) 0 m.0 (omega (arith, m.2, m.3.own)) Program 0 refl m.4
+      text_ends (Err read.Memory) reads long = λ a named built.
+          let m = reads_program (Err read.Memory) reads a named in
+          runs_memory first begun a given now built (leaves_asked first begun a given now keeps (program_file a ∷ []) 0 m.0 refl m.4)
+          (program_file a ∷ []) (asks_program refl) 0 m.0 (omega (arith, m.2, m.3.own)) m.4
+
+-- the program's file was read to its end, and that is as far as the job goes
+module _ (first : ℕ) (begun : Store) (a : Asked) (given : ℕ) (now : Store) (built : is_built a ≡ true) (keeps : KeepsBytes begun now)
+    (places : ℕ → ℕ) (few : places 0 ≤ most_text + 1) (progress : Progress first begun (program_file a ∷ []) 1 places given now) where
+  pub read_leaves : Leaves begun now (Some a)
+  read_leaves = leaves_asked first begun a given now keeps (program_file a ∷ []) 1 places refl progress
+
+  pub read_asks : (status : Status) → AsksAll first begun (Some a) given now status (program_file a ∷ [])
+  read_asks status = record { ended = 1; places = places; progress = progress; few = few; all = λ e. refl; some = λ ne. omega arith }
+
+  pub read_due : (status : Status) → ending_of status ≡ due → DueOf begun.bytes a (program_file a ∷ []) status
+      → (status ≡ is.Ok → Delivers begun.bytes now.bytes (Some a)) → Runs first begun (Some a) given now status
+  read_due status ending d delivered =
+      runs_due first begun a given now built read_leaves (program_file a ∷ []) status ending d (read_asks status) delivered
+
+  pub read_memory : Runs first begun (Some a) given now is.Memory
+  read_memory = runs_memory first begun a given now built read_leaves (program_file a ∷ []) (asks_program refl) 1 places few progress
+
+-- what its text stands for
+module _ (first : ℕ) (begun : Store) (a : Asked) (given : ℕ) (now : Store) (text : List ℕ) (w : HasText first begun a given now text)
+    (bytes : List ℕ) (same : bytes ≡ text) where
+  there : begun.bytes (program_of a) ≡ Some bytes
+  there = w.there ∙ ap (λ (xs : List ℕ). Some xs) (sym same)
+
+  pub refused_runs : is_built a ≡ true → (r : Refusal) → Refuses most_text bytes r → Runs first begun (Some a) given now (is.Program r)
+  refused_runs built r refuses = read_due first begun a given now built w.keeps w.places w.few w.progress (is.Program r) refl
+      (refused bytes r there refuses refl refl) (λ e. absurd (cc))
+
+  pub memory_runs : is_built a ≡ true → Runs first begun (Some a) given now is.Memory
+  memory_runs built = read_memory first begun a given now built w.keeps w.places w.few w.progress
+
+-- why a text is refused, from what the parser says of its answer
+pub refusal_given : {A : Type 0} (most : ℕ) (bytes : List ℕ) (r : Result A ParseFail) (fail : ParseFail) (refusal : Refusal) → r ≡ Err fail
+    → fail ≡ Refused refusal → IfRefused r (Refuses most bytes) → Refuses most bytes refusal
+refusal_given {A} most bytes r fail refusal is kind refuses =
+    let P : Result A ParseFail → Type 0 = λ x. IfRefused x (Refuses most bytes) in
+    let Q : ParseFail → Type 0 = λ x. P (Err x) in
+    subst Q kind (subst P is refuses)

@@ -1,7 +1,10 @@
-pub mod Lines
-pub mod Job
-pub mod Journal
-pub mod Answers
-pub mod Meaning
+pub mod Work
+pub mod Due
+pub mod Endings
+pub mod Outputs
 pub mod Printed
-pub mod Stages
+pub mod Lines
+pub mod Counts
+pub mod Allowed
+pub mod Correct
+pub mod Machine

@@ -1,5 +1,5 @@
 -- What a status is called: its number, and its line on `err`.
-use Rattle.std.specs.Prelude.{◌≡◌, ◌⊎◌, ℕ, List, [], ◌++◌, codes, take}
+use Rattle.std.specs.Prelude.{◌≡◌, ◌⊎◌, ℕ, List, [], ◌++◌, codes, length, take}
 use Rattle.std.specs.Fmt.{decimal}
 use Rattle.soda_io.specs.Cause.{Rose}
 use Rattle.soda_io.specs.declared.role.FileRole.{FileRole}
@@ -89,19 +89,11 @@ line_of is.OutFault = codes "sodac: output fault\n"
 line_of is.Memory = codes "sodac: out of memory\n"
 line_of is.NotYetBuilt = codes "sodac: not yet built\n"
 
--- What `err` took: the whole line, or a front of it where its count of faults rose; at want of memory a front of the
--- line of some status.
-abbrev pub Reports : List ℕ → List ℕ → ℕ → ℕ → Status → Type 0
-Reports old new before now is.Memory = (status : Status) × (n : ℕ) × (new ≡ old ++ take n (line_of status))
-Reports old new before now is.Ok = new ≡ old
-Reports old new before now is.Usage = (new ≡ old ++ line_of is.Usage)
-    ⊎ ((n : ℕ) × (new ≡ old ++ take n (line_of is.Usage)) × Rose before now)
-Reports old new before now is.OutFault = (new ≡ old ++ line_of is.OutFault)
-    ⊎ ((n : ℕ) × (new ≡ old ++ take n (line_of is.OutFault)) × Rose before now)
-Reports old new before now is.NotYetBuilt = (new ≡ old ++ line_of is.NotYetBuilt)
-    ⊎ ((n : ℕ) × (new ≡ old ++ take n (line_of is.NotYetBuilt)) × Rose before now)
-Reports old new before now (is.Program r) =
-    (new ≡ old ++ line_of (is.Program r)) ⊎ ((n : ℕ) × (new ≡ old ++ take n (line_of (is.Program r))) × Rose before now)
-Reports old new before now (is.FileFault role) =
-    (new ≡ old ++ line_of (is.FileFault role))
-    ⊎ ((n : ℕ) × (new ≡ old ++ take n (line_of (is.FileFault role))) × Rose before now)
+-- What `err` took: the line of the job's own status, or a prefix of it where a fault of `err` or want of memory came. A
+-- fault of `err` changes no status; only want of memory, which raises no count, is answered in its place.
+pub record Reports (old new : List ℕ) (before now : ℕ) (status : Status) : Type 0 where
+  pub own : Status
+  pub count : ℕ
+  pub put : new ≡ old ++ take count (line_of own)
+  pub whole : (count ≡ length (line_of own)) ⊎ (Rose before now) ⊎ (status ≡ is.Memory)
+  pub same : (status ≡ own) ⊎ ((status ≡ is.Memory) × (now ≡ before))

@@ -1,32 +1,66 @@
 -- What a job prints.
-use Rattle.std.specs.Prelude.{◌≡◌, ◌⊎◌, ℕ, List, [], ◌++◌, take}
+use Rattle.std.specs.Prelude.{◌≡◌, ◌⊎◌, ℕ, Bool, true, false, List, [], ◌++◌, take, Option, Some, None}
 use Rattle.soda_ir.specs.Program.{PlainProgram}
 use Rattle.soda_print.specs.Canonical.{canonical}
+use Rattle.job_files.specs.Contents.{Holding}
+use Rattle.command_words.specs.declared.mode.Mode.{Mode}
+use Rattle.command_words.specs.declared.mode.Mode.TheVariants.{Check, Plain, Plan, Compile, Sim, Selftest}
+use Rattle.command_words.specs.Orders.{Asked}
 use Rattle.sodac_cli.specs.declared.status.Status.{Status}
 use Rattle.sodac_cli.specs.declared.status.Status.TheVariants as is
-use Rattle.sodac_cli.specs.Job.{Job, check_job, plain_job}
-use Rattle.sodac_cli.specs.Meaning.{HasProgram, Holding}
+use Rattle.sodac_cli.specs.Endings.{Ending, ending_of, due, file_fault, memory, out_fault}
+use Rattle.sodac_cli.specs.Work.{HasProgram}
 
--- the lines that a job prints for its program: `check` the canonical text, `plain` none
-abbrev pub printed : Job → PlainProgram → List ℕ
-printed (check_job program) p = canonical p
-printed (plain_job j) p = []
+-- whether a mode prints anything
+abbrev pub prints : Mode → Bool
+prints Check = true
+prints Plain = false
+prints Plan = false
+prints Compile = false
+prints Sim = false
+prints Selftest = false
+
+-- the lines that a mode prints for a program: `check` its canonical text
+abbrev pub printed : Mode → PlainProgram → List ℕ
+printed Check p = canonical p
+printed Plain p = []
+printed Plan p = []
+printed Compile p = []
+printed Sim p = []
+printed Selftest p = []
 
 -- the text stands for a program, and all lines that are printed for it were taken
-abbrev pub PrintsAll : Holding → Job → (old new : List ℕ) → Type 0
-PrintsAll s j old new = (p : PlainProgram) × HasProgram s j p × (new ≡ old ++ printed j p)
+pub record PrintsAll (h : Holding) (a : Asked) (old new : List ℕ) : Type 0 where
+  pub plain : PlainProgram
+  pub program : HasProgram h a plain
+  pub all : new ≡ old ++ printed a.mode plain
 
--- the text stands for a program, and a front of those lines was taken
-abbrev pub PrintsFront : Holding → Job → (old new : List ℕ) → Type 0
-PrintsFront s j old new = (p : PlainProgram) × HasProgram s j p × (n : ℕ) × (new ≡ old ++ take n (printed j p))
+-- the text stands for a program, and a prefix of those lines was taken
+pub record PrintsPrefix (h : Holding) (a : Asked) (old new : List ℕ) : Type 0 where
+  pub plain : PlainProgram
+  pub program : HasProgram h a plain
+  pub count : ℕ
+  pub some : new ≡ old ++ take count (printed a.mode plain)
 
--- What `out` took: all the lines at Ok, a front of them at a fault of `out`, and nothing where a refusal or a fault
--- stands before the printing. Want of memory may come before it or in the midst of it.
-abbrev pub Prints : Holding → Job → (old new : List ℕ) → Status → Type 0
-Prints s j old new is.Ok = PrintsAll s j old new
-Prints s j old new is.OutFault = PrintsFront s j old new
-Prints s j old new is.Memory = (new ≡ old) ⊎ PrintsFront s j old new
-Prints s j old new is.Usage = new ≡ old
-Prints s j old new is.NotYetBuilt = new ≡ old
-Prints s j old new (is.Program r) = new ≡ old
-Prints s j old new (is.FileFault role) = new ≡ old
+-- what `out` took where a status is due: all the lines at Ok, and nothing where the job is refused
+abbrev pub PrintsDue : Holding → Asked → (old new : List ℕ) → Status → Type 0
+PrintsDue h a old new is.Ok = PrintsAll h a old new
+PrintsDue h a old new is.Usage = new ≡ old
+PrintsDue h a old new (is.Program r) = new ≡ old
+PrintsDue h a old new (is.FileFault role) = new ≡ old
+PrintsDue h a old new is.OutFault = new ≡ old
+PrintsDue h a old new is.Memory = new ≡ old
+PrintsDue h a old new is.NotYetBuilt = new ≡ old
+
+-- by how the run ended: at a fault of `out`, which comes in a mode that prints, a prefix of the lines; want of memory may
+-- come before them or in their midst
+abbrev pub PrintsBy : Ending → Holding → Asked → (old new : List ℕ) → Status → Type 0
+PrintsBy due h a old new status = PrintsDue h a old new status
+PrintsBy (file_fault role) h a old new status = new ≡ old
+PrintsBy out_fault h a old new status = (prints a.mode ≡ true) × PrintsPrefix h a old new
+PrintsBy memory h a old new status = (new ≡ old) ⊎ (PrintsPrefix h a old new)
+
+-- what `out` took, by what the words ask for
+abbrev pub Prints : Holding → Option Asked → (old new : List ℕ) → Status → Type 0
+Prints h None old new status = new ≡ old
+Prints h (Some a) old new status = PrintsBy (ending_of status) h a old new status

@@ -1,33 +1,36 @@
-ghost use Rattle.std.specs.Prelude.{◌≡◌, ◌+◌, ◌≤◌, OnOk, IfOk, IsErrOf};
+ghost use Rattle.std.specs.Prelude.{◌≡◌, ℕ, ◌+◌, true, OnOk, IfOk};
 ghost use Rattle.std.specs.Result.{IfErr};
-ghost use Rattle.soda_io.specs.Cause.{Rose};
-ghost use Rattle.soda_io.specs.Store.{KeepsBytes};
 ghost use Rattle.soda_ir.specs.Program.{plain};
-ghost use Rattle.sodac_cli.specs.Answers.{Faults, IsOfProgram};
-ghost use Rattle.sodac_cli.specs.Job.{Job, program_of};
-ghost use Rattle.sodac_cli.specs.Stages.{Goes, Stops, TextBytes, TextLog};
+ghost use Rattle.command_words.specs.Orders.{Asked};
+ghost use Rattle.sodac_cli.specs.Correct.{Runs};
+ghost use Rattle.sodac_cli.specs.Counts.{FileFaults};
+ghost use Rattle.sodac_cli.specs.Machine.Steps.{IsRead};
+ghost use Rattle.sodac_cli.specs.Machine.Text.{HasText, IsOfText, unread_status};
+ghost use Rattle.sodac_cli.specs.Work.{is_built, program_of};
 
 use crate::Status;
+use job_files::{open_next, read_next};
 use soda_io::{FileRole, Files, IoErr};
 use soda_ir::Program;
 use soda_parse::{ParseFail, Refusal, parse};
 use soda_words::MOST_TEXT;
 use std::alloc::Global;
-use whole_files::{ReadFail, read_whole};
+use whole_files::ReadFail;
 
 // Opens the program's file and reads it.
 fn read_text<F: Files>(alloc: Global, files: &mut F, name: &str) -> Result<Vec<u8>, ReadFail>
     ensures given { OnOk result (F.given files.new ≡ F.given files.old + 1) }
-    ensures log { F.tells → TextLog (F.given files.old) (F.store files.old) (F.store files.new) name.now result }
-    ensures keeps { F.tells → KeepsBytes (F.store files.old) (F.store files.new) }
-    ensures bytes { F.tells → TextBytes (F.store files.old) name.now result }
-    ensures later { F.faults files.old ≤ F.faults files.new }
+    ensures goes { F.tells → IfOk result (λ text. (a : Asked) → program_of a ≡ name.now →
+        HasText (F.given files.old) (F.store files.old) a (F.given files.new) (F.store files.new) text.items) }
+    ensures ends { F.tells → IfErr result (λ fail. (a : Asked) → program_of a ≡ name.now → is_built a ≡ true →
+        Runs (F.given files.old) (F.store files.old) (Some a) (F.given files.new) (F.store files.new)
+        (unread_status fail)) }
     ensures kept { OnOk result (F.faults files.new ≡ F.faults files.old) }
-    ensures kept_too_long { IsErrOf result ReadFail.TooLong → F.faults files.new ≡ F.faults files.old }
-    ensures failed { IsErrOf result ReadFail.Failed → Rose (F.faults files.old) (F.faults files.new) }
+    ensures faults { IfErr result (λ fail. FileFaults (F.faults files.old) (F.faults files.new)
+        (unread_status fail)) }
 {
-    match files.open(name) {
-        Ok(id) => read_whole(alloc, files, id, MOST_TEXT as usize),
+    match open_next(files, name) {
+        Ok(id) => read_next(alloc, files, id, MOST_TEXT as usize),
         Err(IoErr::Failed) => Err(ReadFail::Failed),
         Err(IoErr::Memory) => Err(ReadFail::Memory),
     }
@@ -40,13 +43,13 @@ pub(crate) fn read_program<F: Files>(
     name: &str,
 ) -> Result<Program, Status>
     ensures given { OnOk result (F.given files.new ≡ F.given files.old + 1) }
-    ensures goes { F.tells → IfOk result (λ program. (j : Job) → program_of j ≡ name.now →
-        Goes (F.given files.old) (F.store files.old) (F.store files.new) j (plain program)) }
-    ensures stops { F.tells → IfErr result (λ status. (j : Job) → program_of j ≡ name.now →
-        Stops (F.given files.old) (F.store files.old) (F.store files.new) j status) }
-    ensures of_program { IfErr result (λ status. IsOfProgram status) }
+    ensures goes { F.tells → IfOk result (λ program. (a : Asked) → program_of a ≡ name.now →
+        IsRead (F.given files.old) (F.store files.old) a (plain program) (F.given files.new) (F.store files.new)) }
+    ensures ends { F.tells → IfErr result (λ status. (a : Asked) → program_of a ≡ name.now → is_built a ≡ true →
+        Runs (F.given files.old) (F.store files.old) (Some a) (F.given files.new) (F.store files.new) status) }
+    ensures of_text { IfErr result (λ status. IsOfText status) }
     ensures kept { OnOk result (F.faults files.new ≡ F.faults files.old) }
-    ensures faults { IfErr result (λ status. Faults (F.faults files.old) (F.faults files.new) status) }
+    ensures faults { IfErr result (λ status. FileFaults (F.faults files.old) (F.faults files.new) status) }
 {
     let text = match read_text(alloc, files, name) {
         Ok(text) => text,
@@ -54,7 +57,9 @@ pub(crate) fn read_program<F: Files>(
         Err(ReadFail::Failed) => return Err(Status::FileFault(FileRole::Program)),
         Err(ReadFail::Memory) => return Err(Status::Memory),
     };
-    match parse(alloc, &text, MOST_TEXT) {
+    let parsed = parse(alloc, &text, MOST_TEXT);
+    drop(text);
+    match parsed {
         Ok(program) => Ok(program),
         Err(ParseFail::Refused(refusal)) => Err(Status::Program(refusal)),
         Err(ParseFail::Memory) => Err(Status::Memory),

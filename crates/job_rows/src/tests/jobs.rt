@@ -56,13 +56,22 @@ const OF_OUT: [&[u8]; 2] = [b"", b"sodac: file fault: output 0\n"];
 
 const OF_TEXT: [&[u8]; 2] = [b"", b"sodac: file fault: program\n"];
 
+const USAGE: [&[u8]; 2] = [
+    b"",
+    b"sodac: usage: sodac [--share] [--raw] [--trace] [--params FILE] [--stall FILE] MODE WORDS\n",
+];
+
 const SYNTAX: [&[u8]; 2] = [b"", b"sodac: program: line 1: syntax\n"];
 
 const UNBUILT: [&[u8]; 2] = [b"", b"sodac: not yet built\n"];
 
 const FAULT: &[u8] = b"sodac: output fault\n";
 
-const ROWS: [Row; 21] = [
+// What `o` holds before, where it is there.
+const OLD: &[u8] = b"255\n255\n255\n255\n255\n255\n";
+
+// Runs where `o` isn't there before.
+const ROWS: [Row; 29] = [
     // All is well: the output is created before the input is read.
     (
         PLAIN,
@@ -142,6 +151,26 @@ const ROWS: [Row; 21] = [
         Some(NOTHING),
         b"orrocrr",
     ),
+    // The input may be the program's file, and is read no further than its cells can reach.
+    (
+        "sodac plain p 5 p o",
+        &[],
+        ALL,
+        Status::NotYetBuilt,
+        UNBUILT,
+        Some(NOTHING),
+        b"orrocr",
+    ),
+    // Names are judged once the program is accepted, and before a file is created.
+    (
+        "sodac plain p 5 i",
+        &[],
+        ALL,
+        Status::Usage,
+        USAGE,
+        None,
+        b"orr",
+    ),
     // Where the line can't be written the status stays.
     (
         "sodac",
@@ -153,13 +182,105 @@ const ROWS: [Row; 21] = [
         b"",
     ),
     (
-        "sodac sim p",
+        "sodac check i",
+        &[],
+        (100, &[0]),
+        Status::Program(Refusal::Syntax(1)),
+        [b"", b""],
+        None,
+        b"orr",
+    ),
+    (PLAIN, &[4], (100, &[0]), OUT, [b"", b""], None, b"orroc"),
+    (
+        CHECK,
+        &[],
+        (1, &[0]),
+        Status::OutFault,
+        [b"kernel: su", b""],
+        None,
+        b"orr",
+    ),
+    // Where all is well nothing is written to standard error, so that it would fail is not seen.
+    (
+        PLAIN,
+        &[],
+        (100, &[0]),
+        Status::Ok,
+        [b"", b""],
+        Some(SUMS),
+        b"orrocrrw",
+    ),
+    // What isn't built asks for no file: a mode, and flags in a mode that is built.
+    (
+        "sodac sim p 5 i o",
         &[],
         ALL,
         Status::NotYetBuilt,
         UNBUILT,
         None,
         b"",
+    ),
+    (
+        "sodac --share plain --raw p 5 i o --params p",
+        &[],
+        ALL,
+        Status::NotYetBuilt,
+        UNBUILT,
+        None,
+        b"",
+    ),
+    (
+        "sodac compile p p",
+        &[],
+        ALL,
+        Status::Usage,
+        USAGE,
+        None,
+        b"",
+    ),
+];
+
+// Runs where `o` is there before: it keeps its bytes until it is created, and loses them all then.
+const OVER: [Row; 7] = [
+    (
+        PLAIN,
+        &[],
+        ALL,
+        Status::Ok,
+        [b"", b""],
+        Some(SUMS),
+        b"orrocrrw",
+    ),
+    (PLAIN, &[3], ALL, IN, OF_IN, Some(OLD), b"orro"),
+    (PLAIN, &[4], ALL, OUT, OF_OUT, Some(OLD), b"orroc"),
+    (PLAIN, &[5], ALL, IN, OF_IN, Some(NOTHING), b"orrocr"),
+    (
+        "sodac plain p 4 i o",
+        &[],
+        ALL,
+        Status::NotYetBuilt,
+        UNBUILT,
+        Some(NOTHING),
+        b"orrocrr",
+    ),
+    (
+        "sodac plain p 5 o o",
+        &[],
+        ALL,
+        Status::Usage,
+        USAGE,
+        Some(OLD),
+        b"orr",
+    ),
+    // A program that is refused is told as such, though the output is named like its input.
+    (
+        "sodac plain i 5 o o",
+        &[],
+        ALL,
+        Status::Program(Refusal::Syntax(1)),
+        SYNTAX,
+        Some(OLD),
+        b"orr",
     ),
 ];
 
@@ -172,11 +293,14 @@ fn words(alloc: Global, line: &str) -> Result<Vec<String>, AllocError> {
     Ok(all)
 }
 
-// The files of a run some of whose calls fail.
-fn files(alloc: Global, fails: &[u64]) -> Result<MemFiles, AllocError> {
+// The files of a run some of whose calls fail, and what `o` holds before.
+fn files(alloc: Global, fails: &[u64], old: Option<&[u8]>) -> Result<MemFiles, AllocError> {
     let mut files = MemFiles::new(alloc, fails)?;
     files.add("p", SUM3)?;
     files.add("i", CELLS)?;
+    if let Some(bytes) = old {
+        files.add("o", bytes)?;
+    }
     Ok(files)
 }
 
@@ -210,9 +334,9 @@ fn expect(rt: &impl Abort, row: &Row, status: Status, files: &MemFiles, out: &[u
     );
 }
 
-fn run(rt: &impl Abort, alloc: Global, row: &Row) -> Result<(), AllocError> {
+fn run(rt: &impl Abort, alloc: Global, row: &Row, old: Option<&[u8]>) -> Result<(), AllocError> {
     let words = words(alloc, row.0)?;
-    let mut files = files(alloc, row.1)?;
+    let mut files = files(alloc, row.1, old)?;
     let (parts, err_fails) = row.2;
     let mut out = Narrow::new(alloc, parts);
     let mut err = MemSink::new(alloc, err_fails)?;
@@ -228,7 +352,10 @@ fn run(rt: &impl Abort, alloc: Global, row: &Row) -> Result<(), AllocError> {
 #[test]
 fn jobs(rt: HostRuntime) -> Result<(), Fail> {
     for row in &ROWS {
-        run(&rt, rt.alloc(), row)?;
+        run(&rt, rt.alloc(), row, None)?;
+    }
+    for row in &OVER {
+        run(&rt, rt.alloc(), row, Some(OLD))?;
     }
     assert_eq!(rt; Status::OutFault.number(), 6);
     Ok(())

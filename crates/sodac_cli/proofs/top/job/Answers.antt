@@ -1,59 +1,37 @@
-use Rattle.std.proofs.Common.{◌<◌, ◌^◌, refl, subst, rules}
-use Rattle.sodac_cli.specs.Answers.{Allows}
-use Rattle.sodac_cli.specs.Job.{Job, check_job, job_of, plain_job}
+use Rattle.std.proofs.Common.{Option, Err, sym, ap, subst}
+use Rattle.command_words.specs.declared.order.OrderFail.{OrderFail}
+use Rattle.command_words.specs.Orders.{Asked}
+use Rattle.sodac_cli.specs.declared.status.Status.TheVariants as is
+use Rattle.sodac_cli.specs.Correct.{Runs}
 use Rattle.sodac_cli.specs.Printed.{Prints}
-use Rattle.sodac_cli.specs.Stages.{Stops}
-use Rattle.sodac_cli.proofs.Asked.{no_job, same_check, same_plain, words_of_job}
-use Rattle.sodac_cli.proofs.Printing.{plain_printed, silent_out_faults}
+use Rattle.sodac_cli.specs.Work.{asked_of}
+use Rattle.sodac_cli.proofs.Silent.{prints_nothing}
+use Rattle.sodac_cli.proofs.Unasked.{memory_unasked, untaken_runs}
 use Rattle.sodac_cli.proofs.top.job.Goals as goal
 
--- a mode that isn't built
-pub returns-in-Unbuilt-clause-allows : goal.returns-in-Unbuilt-clause-allows
-returns-in-Unbuilt-clause-allows g c = λ j a. absurd (no_job c.args.words.now j c.in-Unbuilt.ensures.1 c.in-Unbuilt.ensures.2 a)
+pub returns-in-Ok-clause-runs : goal.returns-in-Ok-clause-runs
+returns-in-Ok-clause-runs g c = λ told.
+    let P : Option Asked → Type 0 = λ o. Runs (g.F.Files.given c.args.files.now) (g.F.Files.store c.args.files.now) o
+    (g.F.Files.given c.run-status.new.files) (g.F.Files.store c.run-status.new.files) c.run-status.result in
+    subst P (sym c.in-Ok.ensures.found) (c.run-status.ensures.runs told)
 
-pub returns-in-Unbuilt-clause-stops : goal.returns-in-Unbuilt-clause-stops
-returns-in-Unbuilt-clause-stops g c = λ j a. absurd (no_job c.args.words.now j c.in-Unbuilt.ensures.1 c.in-Unbuilt.ensures.2 a)
+pub returns-in-Ok-clause-prints : goal.returns-in-Ok-clause-prints
+returns-in-Ok-clause-prints g c = λ told also.
+    let P : Option Asked → Type 0 = λ o. Prints (g.F.Files.store c.args.files.now).bytes o (g.S.Sink.taken c.args.out.now)
+    (g.S.Sink.taken c.run-status.new.out) c.run-status.result in
+    subst P (sym c.in-Ok.ensures.found) (c.run-status.ensures.prints told also)
 
--- `check`
-pub returns-in-Check-clause-words : goal.returns-in-Check-clause-words
-returns-in-Check-clause-words g c = words_of_job c.args.words.now (check_job c.in-Check.program.now) c.check.result c.in-Check.ensures.0 c.check.ensures.allows
+pub returns-in-Err-Usage-clause-runs : goal.returns-in-Err-Usage-clause-runs
+returns-in-Err-Usage-clause-runs g c = λ told.
+    untaken_runs _ _ _ (c.in-Err-Usage.ensures.usage (ap (λ (e : OrderFail). Err e) c.in-Err-Usage.field-0-is))
 
-pub returns-in-Check-clause-allows : goal.returns-in-Check-clause-allows
-returns-in-Check-clause-allows g c = λ j a.
-    let P : Job → Type 0 = λ i. Allows i c.check.result in
-    subst P (same_check c.args.words.now c.in-Check.program.now j c.in-Check.ensures.1 c.in-Check.ensures.2 a) c.check.ensures.allows
+pub returns-in-Err-Usage-clause-prints : goal.returns-in-Err-Usage-clause-prints
+returns-in-Err-Usage-clause-prints g c = λ told also.
+    prints_nothing _ (asked_of c.args.words.now) _ is.Usage (λ e. absurd (cc)) (λ e. absurd (cc))
 
-pub returns-in-Check-clause-stops : goal.returns-in-Check-clause-stops
-returns-in-Check-clause-stops g c = λ j a told.
-    let P : Job → Type 0 = λ i. Stops (g.F.Files.given c.args.files.now) (g.F.Files.store c.args.files.now) (g.F.Files.store c.check.new.files) i c.check.result in
-    subst P (same_check c.args.words.now c.in-Check.program.now j c.in-Check.ensures.1 c.in-Check.ensures.2 a) (c.check.ensures.stops told)
+pub returns-in-Err-Memory-clause-runs : goal.returns-in-Err-Memory-clause-runs
+returns-in-Err-Memory-clause-runs g c = λ told. memory_unasked _ _ _
 
-pub returns-in-Check-clause-prints : goal.returns-in-Check-clause-prints
-returns-in-Check-clause-prints g c = λ j a told also.
-    let P : Job → Type 0 = λ i. Prints (g.F.Files.store c.args.files.now).bytes i (g.S.Sink.taken c.args.out.now) (g.S.Sink.taken c.check.new.out) c.check.result in
-    subst P (same_check c.args.words.now c.in-Check.program.now j c.in-Check.ensures.1 c.in-Check.ensures.2 a) (c.check.ensures.prints told also)
-
--- `plain`
-pub returns-in-Plain-clause-words : goal.returns-in-Plain-clause-words
-returns-in-Plain-clause-words g c = words_of_job c.args.words.now (plain_job (job_of c.in-Plain.words)) c.plain.result c.in-Plain.ensures.0 c.plain.ensures.allows
-
-pub returns-in-Plain-clause-allows : goal.returns-in-Plain-clause-allows
-returns-in-Plain-clause-allows g c = λ j a.
-    let small : c.in-Plain.words.rows < 2 ^ 64 = search rules in
-    let P : Job → Type 0 = λ i. Allows i c.plain.result in
-    subst P (same_plain c.args.words.now (job_of c.in-Plain.words) j small c.in-Plain.ensures.1 c.in-Plain.ensures.2 a) c.plain.ensures.allows
-
-pub returns-in-Plain-clause-stops : goal.returns-in-Plain-clause-stops
-returns-in-Plain-clause-stops g c = λ j a told.
-    let small : c.in-Plain.words.rows < 2 ^ 64 = search rules in
-    let P : Job → Type 0 = λ i. Stops (g.F.Files.given c.args.files.now) (g.F.Files.store c.args.files.now) (g.F.Files.store c.plain.new.files) i c.plain.result in
-    subst P (same_plain c.args.words.now (job_of c.in-Plain.words) j small c.in-Plain.ensures.1 c.in-Plain.ensures.2 a) (c.plain.ensures.stops told)
-
-pub returns-in-Plain-clause-prints : goal.returns-in-Plain-clause-prints
-returns-in-Plain-clause-prints g c = λ j a told also.
-    let small : c.in-Plain.words.rows < 2 ^ 64 = search rules in
-    let P : Job → Type 0 = λ i. Prints (g.F.Files.store c.args.files.now).bytes i (g.S.Sink.taken c.args.out.now) (g.S.Sink.taken c.args.out.now) c.plain.result in
-    subst P (same_plain c.args.words.now (job_of c.in-Plain.words) j small c.in-Plain.ensures.1 c.in-Plain.ensures.2 a) (plain_printed _ _ _ refl (g.F.Files.store c.plain.new.files).bytes (job_of c.in-Plain.words) c.plain.result c.plain.ensures.allows (c.plain.ensures.stops told).tells)
-
-pub returns-in-Plain-clause-out_faults : goal.returns-in-Plain-clause-out_faults
-returns-in-Plain-clause-out_faults g c = silent_out_faults _ (job_of c.in-Plain.words) c.plain.result c.plain.ensures.allows
+pub returns-in-Err-Memory-clause-prints : goal.returns-in-Err-Memory-clause-prints
+returns-in-Err-Memory-clause-prints g c = λ told also.
+    prints_nothing _ (asked_of c.args.words.now) _ is.Memory (λ e. absurd (cc)) (λ e. absurd (cc))

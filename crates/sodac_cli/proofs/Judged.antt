@@ -1,0 +1,133 @@
+-- What is judged of an accepted program: how many inputs and outputs it has, the names, the limits, and what refuses it.
+use Rattle.std.proofs.Common.{◌≡◌, ℕ, suc, ◌+◌, ◌<◌, ◌≤◌, ◌==◌, Bool, true, false, not, ◌&&◌, ◌||◌, cond, List, [], ◌∷◌, map, length, take, drop, get_or, Option, Some, None, option_map, refl, sym, ap, ◌∙◌, arith, if◌then◌else◌, nat_lt}
+use Rattle.std.specs.List.{filter, list_any}
+use Rattle.std.specs.Borrow.{Bor}
+use Rattle.std.specs.Str.{bytes_eq}
+use Rattle.std.proofs.lemmas.Bool.{and_parts, eq-eqb, eqb-true, ltb-false}
+use Rattle.std.proofs.lemmas.List.{drop_all, drop_more, get_or-map, length-map, take-map, take_more}
+use Rattle.soda_words.specs.IntType.{IntType}
+use Rattle.soda_words.specs.Limits.{most_cells}
+use Rattle.soda_words.specs.Tokens.{or_else}
+use Rattle.soda_ir.specs.Counts.{is_input_role, is_output_role}
+use Rattle.soda_ir.specs.Program.{PlainProgram, PlainTensor, input_types, plain_tensor}
+use Rattle.soda_ir.specs.Valid.{output_types}
+use Rattle.soda_ir.specs.declared.program.Role.TheVariants.{Input, Local, Output}
+use Rattle.soda_ir.specs.declared.program.Tensor.{Tensor}
+use Rattle.soda_ir.specs.declared.limit.LimitKind.TheVariants.{Cells}
+use Rattle.soda_eval.specs.Runs.{cells_at}
+use Rattle.soda_eval.specs.Sums.{IsSumProgram, is_sum_program}
+use Rattle.soda_parse.specs.declared.refusal.Refusal.{Refusal}
+use Rattle.soda_parse.specs.declared.refusal.Refusal.TheVariants.{Limit}
+use Rattle.job_files.specs.Files.{names_of}
+use Rattle.command_words.specs.declared.mode.Mode.TheVariants.{Plain}
+use Rattle.command_words.specs.Orders.{Asked}
+use Rattle.sodac_cli.specs.declared.status.Status.TheVariants as is
+use Rattle.sodac_cli.specs.Due.{are_apart, first_refusal, names_fit, passed_limit, refusal_of, stages_of}
+use Rattle.sodac_cli.specs.Machine.Steps.{LetsPass}
+use Rattle.sodac_cli.specs.Work.{input_count, input_names, output_count, output_names, program_of, rows_of}
+
+-- the inputs are the tensors of that role, and the outputs
+pub inputs_found : (ts : List Tensor) → length (filter (λ t. is_input_role t.role) ts) ≡ length (input_types (map plain_tensor ts))
+inputs_found [] = refl
+inputs_found (t ∷ ts) =
+    let found : List Tensor = filter (λ u. is_input_role u.role) ts in
+    let more = input_types (map plain_tensor ts) in
+    elim t.role as (λ r. length (cond (is_input_role r) (t ∷ found) found) ≡ length {A = IntType} (elim r [ Input ↦ t.ty ∷ more | Local ↦ more | Output ↦ more ]))
+    [ Input ↦ ap suc (inputs_found ts) | Local ↦ inputs_found ts | Output ↦ inputs_found ts ]
+
+pub outputs_found : (ts : List Tensor) → length (filter (λ t. is_output_role t.role) ts) ≡ length (output_types (map plain_tensor ts))
+outputs_found [] = refl
+outputs_found (t ∷ ts) =
+    let found : List Tensor = filter (λ u. is_output_role u.role) ts in
+    let more = output_types (map plain_tensor ts) in
+    elim t.role as (λ r. length (cond (is_output_role r) (t ∷ found) found) ≡ length {A = IntType} (elim r [ Input ↦ more | Local ↦ more | Output ↦ t.ty ∷ more ]))
+    [ Input ↦ outputs_found ts | Local ↦ outputs_found ts | Output ↦ ap suc (outputs_found ts) ]
+
+-- no tensor is both
+pub both_within : (ts : List PlainTensor) → length (input_types ts) + length (output_types ts) ≤ length ts
+both_within [] = omega arith
+both_within (t ∷ ts) =
+    let ins = input_types ts in
+    let outs = output_types ts in
+    let less = both_within ts in
+    elim t.role as (λ r. length {A = IntType} (elim r [ Input ↦ t.ty ∷ ins | Local ↦ ins | Output ↦ ins ]) + length {A = IntType} (elim r [ Input ↦ outs | Local ↦ outs | Output ↦ t.ty ∷ outs ]) ≤ suc (length ts))
+    [ Input ↦ omega arith | Local ↦ omega arith | Output ↦ omega arith ]
+
+-- one name more, behind those that were looked at
+pub apart_more : (program : List ℕ) (names : List (List ℕ)) (n : ℕ) → n < length names
+    → are_apart (program ∷ take n names) (drop n names)
+    ≡ (not (list_any (bytes_eq (get_or names n [])) (program ∷ take n names)) && are_apart (program ∷ take (n + 1) names) (drop (n + 1) names))
+apart_more program names n lt =
+    ap (λ rest. are_apart (program ∷ take n names) rest) (drop_more names n [] lt)
+    ∙ ap (λ before. not (list_any (bytes_eq (get_or names n [])) (program ∷ take n names)) && are_apart (program ∷ before) (drop (n + 1) names)) (sym (take_more names n [] lt))
+
+-- the same of names that references point to, by a test of that name
+pub apart_step : (program : List ℕ) (names : List (Bor (List ℕ))) (n : ℕ) (d : Bor (List ℕ)) (among : Bool) → n < length names
+    → among ≡ list_any (bytes_eq (get_or names n d).now) (program ∷ names_of (take n names))
+    → are_apart (program ∷ take n (names_of names)) (drop n (names_of names))
+    ≡ (not among && are_apart (program ∷ take (n + 1) (names_of names)) (drop (n + 1) (names_of names)))
+apart_step program names n d among lt e =
+    let now : Bor (List ℕ) → List ℕ = λ name. name.now in
+    let within : n < length (names_of names) = omega (arith, length-map names now) in
+    let later : Bool = are_apart (program ∷ take (n + 1) (names_of names)) (drop (n + 1) (names_of names)) in
+    apart_more program (names_of names) n within
+    ∙ ap (λ name. not (list_any (bytes_eq name) (program ∷ take n (names_of names))) && later) (get_or-map now names n d [] lt)
+    ∙ ap (λ before. not (list_any (bytes_eq (get_or names n d).now) (program ∷ before)) && later) (take-map now n names)
+    ∙ ap (λ b. not b && later) (sym e)
+
+-- and at the end
+pub apart_all : (program : List ℕ) (names : List (Bor (List ℕ))) (n : ℕ) → length names ≤ n
+    → are_apart (program ∷ take n (names_of names)) (drop n (names_of names)) ≡ true
+apart_all program names n le =
+    let now : Bor (List ℕ) → List ℕ = λ name. name.now in
+    let past : length (names_of names) ≤ n = omega (arith, length-map names now) in
+    ap (λ rest. are_apart (program ∷ take n (names_of names)) rest) (drop_all n (names_of names) past)
+
+-- a name among those that references point to
+pub any_name : (name : List ℕ) (names : List (Bor (List ℕ))) → list_any (λ other. bytes_eq name other.now) names ≡ list_any (bytes_eq name) (names_of names)
+any_name name [] = refl
+any_name name (n ∷ ns) = ap (λ b. bytes_eq name n.now || b) (any_name name ns)
+
+-- the names fit where there are as many as inputs and outputs and no output is named like another file
+pub fit_by : (a : Asked) (p : PlainProgram) (program : List ℕ) (names : List (List ℕ)) (inputs : ℕ) → program ≡ program_of a → names ≡ a.names → inputs ≡ input_count p
+    → length a.names ≡ input_count p + output_count p → are_apart (program ∷ take inputs names) (drop inputs names) ≡ names_fit a p
+fit_by a p program names inputs x y z e =
+    ap (λ name. are_apart (name ∷ take inputs names) (drop inputs names)) x
+    ∙ ap (λ ns. are_apart (program_of a ∷ take inputs ns) (drop inputs ns)) y
+    ∙ ap (λ k. are_apart (program_of a ∷ take k a.names) (drop k a.names)) z
+    ∙ sym (ap (λ b. b && are_apart (program_of a ∷ input_names a p) (output_names a p)) (eq-eqb (length a.names) (input_count p + output_count p) e))
+
+-- where no limit is passed, an array has few cells
+few_cells : (b : Bool) (r : Refusal) (o : Option Refusal) → (if b then Some r else o) ≡ None → b ≡ false
+few_cells true r o e = cc
+few_cells false r o e = refl
+
+-- what is judged in `plain`, and what refuses a program
+module _ (a : Asked) (p : PlainProgram) (plain : a.mode ≡ Plain) where
+  refusal_by : (fit sum : Bool) (limit : Option Refusal) → names_fit a p ≡ fit → is_sum_program p ≡ sum → passed_limit p (rows_of a) ≡ limit
+      → refusal_of a p ≡ or_else (if fit then None else Some is.Usage) (or_else (if sum then None else Some is.NotYetBuilt) (or_else (option_map (λ r. is.Program r) limit) None))
+  refusal_by fit sum limit x y z =
+      ap (λ m. first_refusal (stages_of m) a p) plain
+      ∙ ap (λ b. or_else (if b then None else Some is.Usage) (or_else (if is_sum_program p then None else Some is.NotYetBuilt) (or_else (option_map (λ r. is.Program r) (passed_limit p (rows_of a))) None))) x
+      ∙ ap (λ b. or_else (if fit then None else Some is.Usage) (or_else (if b then None else Some is.NotYetBuilt) (or_else (option_map (λ r. is.Program r) (passed_limit p (rows_of a))) None))) y
+      ∙ ap (λ o. or_else (if fit then None else Some is.Usage) (or_else (if sum then None else Some is.NotYetBuilt) (or_else (option_map (λ r. is.Program r) o) None))) z
+
+  pub names_refused : names_fit a p ≡ false → refusal_of a p ≡ Some is.Usage
+  names_refused x = refusal_by false (is_sum_program p) (passed_limit p (rows_of a)) x refl refl
+
+  pub form_refused : names_fit a p ≡ true → is_sum_program p ≡ false → refusal_of a p ≡ Some is.NotYetBuilt
+  form_refused x y = refusal_by true false (passed_limit p (rows_of a)) x y refl
+
+  pub limit_refused : names_fit a p ≡ true → is_sum_program p ≡ true → (r : Refusal) → passed_limit p (rows_of a) ≡ Some r → refusal_of a p ≡ Some (is.Program r)
+  limit_refused x y r z = refusal_by true true (Some r) x y z
+
+  pub lets_pass : names_fit a p ≡ true → is_sum_program p ≡ true → IsSumProgram p → passed_limit p (rows_of a) ≡ None → LetsPass a p
+  lets_pass x y s z =
+      let fit = and_parts (length a.names == input_count p + output_count p) (are_apart (program_of a ∷ input_names a p) (output_names a p)) x in
+      record {
+        none = refusal_by true true None x y z;
+        sum = s;
+        few = ltb-false most_cells (cells_at p (rows_of a)) (few_cells (nat_lt most_cells (cells_at p (rows_of a))) (Limit Cells (cells_at p (rows_of a))) _ z);
+        count = eqb-true (length a.names) (input_count p + output_count p) fit.0;
+        apart = fit.1;
+      }

@@ -1,0 +1,70 @@
+-- A run that asks for no file.
+use Rattle.std.proofs.Common.{◌≡◌, ◌≢◌, ℕ, Bool, true, false, not, ◌&&◌, List, [], Option, Some, None, refl, sym, ap, subst, arith, inl}
+use Rattle.std.specs.Option.{is_none}
+use Rattle.soda_io.specs.Store.{Store}
+use Rattle.job_files.specs.Contents.{Holding}
+use Rattle.job_files.proofs.CallerLemmas.{begin, created_names, holds_none}
+use Rattle.command_words.specs.Orders.{Asked}
+use Rattle.sodac_cli.specs.declared.status.Status.{Status}
+use Rattle.sodac_cli.specs.declared.status.Status.TheVariants as is
+use Rattle.sodac_cli.specs.Correct.{Runs}
+use Rattle.sodac_cli.specs.Due.{DueFor, DueIf, MayAskFor, MayAskIf, asks_none}
+use Rattle.sodac_cli.specs.Endings.{AsksBy, Ending, due, ending_of}
+use Rattle.sodac_cli.specs.Outputs.{AreOutputs, Leaves}
+use Rattle.sodac_cli.specs.Work.{is_built, is_built_mode}
+
+may_none : (h : Holding) (asked : Option Asked) → MayAskFor h asked []
+may_none h None = refl
+may_none h (Some a) = elim (is_built a) as (λ b. MayAskIf b h a []) [ true ↦ asks_none refl | false ↦ refl ]
+
+module _ (first : ℕ) (begun : Store) (asked : Option Asked) where
+  untouched : Leaves begun begun asked
+  untouched = record {
+    outputs = [];
+    holds = holds_none begun.bytes;
+    made = λ entries calls. created_names first begun [] 0 (λ n. 0) first begun (begin first begun) entries calls;
+    are = elim asked as (λ o. AreOutputs begun.bytes o []) [ None ↦ refl | Some a ↦ inl refl ];
+  }
+
+  ends : (s : Status) → ending_of s ≡ due → DueFor begun.bytes asked [] s → s ≢ is.Ok → Runs first begun asked first begun s
+  ends s ending d not_ok =
+      let P : Ending → Type 0 = λ e. AsksBy first begun asked first begun e s in
+      record {
+        journal = subst P (sym ending) (record {
+          files = [];
+          due = d;
+          asks = record { ended = 0; places = λ n. 0; progress = begin first begun; few = omega arith; all = λ e. refl; some = λ ne. omega arith };
+        });
+        files = untouched;
+        delivered = λ e. absurd (not_ok e);
+      }
+
+  -- the words aren't taken
+  pub untaken_runs : asked ≡ None → Runs first begun asked first begun is.Usage
+  untaken_runs none = let P : Option Asked → Type 0 = λ o. DueFor begun.bytes o [] is.Usage in
+      ends is.Usage refl (subst P (sym none) (refl, refl)) (λ e. absurd (cc))
+
+  -- memory was refused before any file
+  pub memory_unasked : Runs first begun asked first begun is.Memory
+  memory_unasked = record {
+    journal = inl (record {
+      made = [];
+      may = may_none begun.bytes asked;
+      ended = 0;
+      places = λ n. 0;
+      progress = begin first begun;
+      few = omega arith;
+    });
+    files = untouched;
+    delivered = λ e. absurd (cc);
+  }
+
+-- what is asked for isn't built
+pub unbuilt_runs : (first : ℕ) (begun : Store) (a : Asked) → is_built a ≡ false → Runs first begun (Some a) first begun is.NotYetBuilt
+unbuilt_runs first begun a unbuilt =
+    let P : Bool → Type 0 = λ b. DueIf b begun.bytes a [] is.NotYetBuilt in
+    ends first begun (Some a) is.NotYetBuilt refl (subst P (sym unbuilt) (refl, refl)) (λ e. absurd (cc))
+
+-- the mode isn't
+pub unbuilt_mode : (a : Asked) → is_built_mode a.mode ≡ false → is_built a ≡ false
+unbuilt_mode a e = ap (λ b. b && (not a.share && (not a.raw && (not a.trace && (is_none a.params && is_none a.stall))))) e

@@ -1,0 +1,67 @@
+-- Which answers the words allow, whatever the files hold and tell.
+use Rattle.std.specs.Prelude.{◌≡◌, ◌⊎◌, Bool, true, false, not, ◌&&◌, Option, Some, None}
+use Rattle.soda_io.specs.declared.role.FileRole.{FileRole}
+use Rattle.soda_io.specs.declared.role.FileRole.TheVariants.{Program, Modules, Params, Stall, Input, Output}
+use Rattle.command_words.specs.declared.mode.Mode.{Mode}
+use Rattle.command_words.specs.declared.mode.Mode.TheVariants.{Check, Plain, Plan, Compile, Sim, Selftest}
+use Rattle.command_words.specs.Orders.{Asked}
+use Rattle.sodac_cli.specs.declared.status.Status.{Status}
+use Rattle.sodac_cli.specs.declared.status.Status.TheVariants as is
+use Rattle.sodac_cli.specs.Printed.{prints}
+use Rattle.sodac_cli.specs.Work.{is_built}
+
+-- a role that a file of `plain` has so far
+abbrev pub IsOfArrays : FileRole → Type 0
+IsOfArrays Program = Unit {0}
+IsOfArrays (Input number) = Unit {0}
+IsOfArrays (Output number) = Unit {0}
+IsOfArrays Modules = ⊥
+IsOfArrays Params = ⊥
+IsOfArrays Stall = ⊥
+
+-- what `check` can end with: it is built for every program, and asks for the program's file alone
+abbrev pub AllowsCheck : Status → Type 0
+AllowsCheck is.Ok = Unit {0}
+AllowsCheck is.Usage = ⊥
+AllowsCheck (is.Program r) = Unit {0}
+AllowsCheck (is.FileFault role) = role ≡ Program
+AllowsCheck is.OutFault = Unit {0}
+AllowsCheck is.Memory = Unit {0}
+AllowsCheck is.NotYetBuilt = ⊥
+
+-- what `plain` can end with: it prints nothing that could fail
+abbrev pub AllowsPlain : Status → Type 0
+AllowsPlain is.Ok = Unit {0}
+AllowsPlain is.Usage = Unit {0}
+AllowsPlain (is.Program r) = Unit {0}
+AllowsPlain (is.FileFault role) = IsOfArrays role
+AllowsPlain is.OutFault = ⊥
+AllowsPlain is.Memory = Unit {0}
+AllowsPlain is.NotYetBuilt = Unit {0}
+
+-- what a mode that is built can end with
+abbrev pub AllowsMode : Mode → Status → Type 0
+AllowsMode Check status = AllowsCheck status
+AllowsMode Plain status = AllowsPlain status
+AllowsMode Plan status = ⊥
+AllowsMode Compile status = ⊥
+AllowsMode Sim status = ⊥
+AllowsMode Selftest status = ⊥
+
+abbrev pub AllowsIf : Bool → Mode → Status → Type 0
+AllowsIf true mode status = AllowsMode mode status
+AllowsIf false mode status = status ≡ is.NotYetBuilt
+
+-- words that aren't taken are told as such, and so is what isn't built
+abbrev pub AllowsFor : Option Asked → Status → Type 0
+AllowsFor None status = status ≡ is.Usage
+AllowsFor (Some a) status = AllowsIf (is_built a) a.mode status
+
+-- want of memory may come in place of each
+abbrev pub Allows : Option Asked → Status → Type 0
+Allows asked status = (status ≡ is.Memory) ⊎ AllowsFor asked status
+
+-- nothing is printed: the words aren't taken, what they ask for isn't built, or the mode prints nothing
+abbrev pub is_silent : Option Asked → Bool
+is_silent None = true
+is_silent (Some a) = not (is_built a && prints a.mode)

@@ -1,0 +1,82 @@
+-- How a run ends, and what it asked of the files until then, as the journal of calls shows it.
+use Rattle.std.specs.Prelude.{◌≡◌, ◌≢◌, ◌⊎◌, ℕ, ◌+◌, ◌≤◌, min, List, [], ◌∷◌, length, Option, Some, None, if◌then◌else◌}
+use Rattle.soda_io.specs.Store.{Store}
+use Rattle.soda_io.specs.declared.role.FileRole.{FileRole}
+use Rattle.soda_words.specs.Limits.{most_text}
+use Rattle.soda_parse.specs.declared.refusal.Refusal.TheVariants.{TextTooLong}
+use Rattle.job_files.specs.Files.{HasRole, JobFile}
+use Rattle.job_files.specs.Progress.{Progress, Stuck}
+use Rattle.command_words.specs.Orders.{Asked}
+use Rattle.sodac_cli.specs.declared.status.Status.{Status}
+use Rattle.sodac_cli.specs.declared.status.Status.TheVariants as is
+use Rattle.sodac_cli.specs.Due.{DueFor, MayAskFor}
+
+-- a run ends with the status that is due, with a fault of a file or of `out`, or for want of memory
+pub data Ending : Type 0 where
+  due : Ending
+  file_fault : FileRole → Ending
+  out_fault : Ending
+  memory : Ending
+
+abbrev pub ending_of : Status → Ending
+ending_of is.Ok = due
+ending_of is.Usage = due
+ending_of (is.Program r) = due
+ending_of (is.FileFault role) = file_fault role
+ending_of is.OutFault = out_fault
+ending_of is.Memory = memory
+ending_of is.NotYetBuilt = due
+
+-- how many of the files are opened
+abbrev pub opened_count : List JobFile → ℕ
+opened_count [] = 0
+opened_count (f ∷ fs) = (if f.opened then 1 else 0) + opened_count fs
+
+-- a call that was handed files of which `first` ids were given and that stood so, at its end
+module _ (first : ℕ) (begun : Store) (asked : Option Asked) (given : ℕ) (now : Store) where
+  -- Exactly these files were asked for, in order, the n-th got the n-th of the ids, and no call failed. At Ok each file
+  -- that was opened was read to its end, and elsewhere the program's was, unless it is too long. Of it no byte was read
+  -- behind the first that is too many.
+  pub record AsksAll (status : Status) (files : List JobFile) : Type 0 where
+    pub ended : ℕ
+    pub places : ℕ → ℕ
+    pub progress : Progress first begun files ended places given now
+    pub few : places 0 ≤ most_text + 1
+    pub all : status ≡ is.Ok → ended ≡ opened_count files
+    pub some : status ≢ is.Program TextTooLong → min 1 (length files) ≤ ended
+
+  -- files that may be asked for were, in order; the last call of all failed, on the file of this role
+  pub record AsksUntilFault (role : FileRole) : Type 0 where
+    pub made : List JobFile
+    pub may : MayAskFor begun.bytes asked made
+    pub ended : ℕ
+    pub number : ℕ
+    pub places : ℕ → ℕ
+    pub stuck : Stuck first begun made ended number places given now
+    pub few : places 0 ≤ most_text + 1
+    pub has_role : HasRole made number role
+
+  -- files that may be asked for were, in order, and no call failed
+  pub record AsksSome : Type 0 where
+    pub made : List JobFile
+    pub may : MayAskFor begun.bytes asked made
+    pub ended : ℕ
+    pub places : ℕ → ℕ
+    pub progress : Progress first begun made ended places given now
+    pub few : places 0 ≤ most_text + 1
+
+  -- this status is due, and just the files that are asked for until then were
+  pub record AsksUntilDue (status : Status) : Type 0 where
+    pub files : List JobFile
+    pub due : DueFor begun.bytes asked files status
+    pub asks : AsksAll status files
+
+  -- what was asked of the files, by how the run ended: for want of memory the line of a fault may be cut off
+  abbrev pub AsksBy : Ending → Status → Type 0
+  AsksBy due status = AsksUntilDue status
+  AsksBy (file_fault role) status = AsksUntilFault role
+  AsksBy out_fault status = AsksUntilDue is.Ok
+  AsksBy memory status = AsksSome ⊎ ((role : FileRole) × AsksUntilFault role)
+
+  abbrev pub Asks : Status → Type 0
+  Asks status = AsksBy (ending_of status) status

@@ -1,0 +1,3 @@
+-- What describes the steps of a job, and no public clause.
+pub mod Steps
+pub mod Text

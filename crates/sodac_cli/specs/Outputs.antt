@@ -1,0 +1,52 @@
+-- What each name holds after a job.
+use Rattle.std.specs.Prelude.{◌≡◌, ◌⊎◌, ℕ, Bool, true, false, List, [], ◌∷◌, ◌++◌, map, take, All, Option, Some, None, ℤ}
+use Rattle.soda_io.specs.declared.call.FileCall.{FileCall}
+use Rattle.soda_io.specs.Store.{Store}
+use Rattle.soda_ir.specs.Program.{PlainProgram}
+use Rattle.job_files.specs.Contents.{Holding, Holds}
+use Rattle.job_files.specs.Progress.{created}
+use Rattle.command_words.specs.Orders.{Asked}
+use Rattle.sodac_cli.specs.Work.{HasInputs, HasProgram, output_names, output_texts, writes_arrays}
+
+-- each of the outputs, a name with its bytes, holds a prefix of its text
+abbrev pub ArePrefixes : List (List ℕ × List ℕ) → List (List ℕ) → Type 0
+ArePrefixes [] texts = Unit {0}
+ArePrefixes (output ∷ outputs) [] = ⊥
+ArePrefixes (output ∷ outputs) (text ∷ texts) = ((n : ℕ) × (output.1 ≡ take n text)) × ArePrefixes outputs texts
+
+-- the outputs of an accepted program are empty, or over good inputs each holds a prefix of its text
+pub record HoldPrefixes (h : Holding) (a : Asked) (outputs : List (List ℕ × List ℕ)) : Type 0 where
+  pub plain : PlainProgram
+  pub program : HasProgram h a plain
+  pub prefixes : All (λ output. output.1 ≡ []) outputs
+      ⊎ ((arrays : List (List ℤ)) × HasInputs h a plain arrays × ArePrefixes outputs (output_texts a plain arrays))
+
+-- the outputs that were created, by what the words ask for
+abbrev pub AreOutputs : Holding → Option Asked → List (List ℕ × List ℕ) → Type 0
+AreOutputs h None outputs = outputs ≡ []
+AreOutputs h (Some a) outputs = (outputs ≡ []) ⊎ HoldPrefixes h a outputs
+
+-- Each file that was created is an output and holds a prefix of its text, and every other name what it held.
+pub record Leaves (old new : Store) (asked : Option Asked) : Type 0 where
+  pub outputs : List (List ℕ × List ℕ)
+  pub holds : Holds old.bytes new.bytes outputs
+  pub made : (entries : List FileCall) → new.calls ≡ old.calls ++ entries → created entries ≡ map (λ o. o.0) outputs
+  pub are : AreOutputs old.bytes asked outputs
+
+-- the names hold these texts, in order
+abbrev pub HoldTexts : Holding → List (List ℕ) → List (List ℕ) → Type 0
+HoldTexts h [] [] = Unit {0}
+HoldTexts h [] (text ∷ texts) = ⊥
+HoldTexts h (name ∷ names) [] = ⊥
+HoldTexts h (name ∷ names) (text ∷ texts) = (h name ≡ Some text) × HoldTexts h names texts
+
+-- Where a mode writes arrays: of the one program and the one list of arrays, each output holds its text.
+abbrev pub DeliversIf : Bool → Holding → Holding → Asked → Type 0
+DeliversIf true old new a = (p : PlainProgram) → HasProgram old a p → (arrays : List (List ℤ))
+    → HasInputs old a p arrays → HoldTexts new (output_names a p) (output_texts a p arrays)
+DeliversIf false old new a = Unit {0}
+
+-- each output holds its text, by what the words ask for
+abbrev pub Delivers : Holding → Holding → Option Asked → Type 0
+Delivers old new None = Unit {0}
+Delivers old new (Some a) = DeliversIf (writes_arrays a.mode) old new a

@@ -1,0 +1,16 @@
+ghost use Rattle.std.specs.Prelude.{◌≡◌, List, String};
+ghost use Rattle.std.specs.Global.{Global};
+ghost use Rattle.job_files.specs.Contents.{Holding};
+ghost use Rattle.job_files.specs.Files.{JobFile};
+ghost use Rattle.sodac_cli.specs.Due.{Due};
+ghost use Rattle.sodac_cli.specs.declared.status.Status.{Status as Ended};
+
+use soda_parse::texts_are_one;
+
+/// No two statuses are due, and none over two lists of files.
+pub fn only_one_is_due()
+    ensures { (holding : Holding) (words : List (String Global)) (files others : List JobFile) (one other : Ended)
+        → Due holding words files one → Due holding words others other → (one ≡ other) × (files ≡ others) }
+{
+    texts_are_one()
+}
