@@ -21,6 +21,11 @@ past_by false n h = omega (arith, ints)
 pub past_is : (t : IntType) → 0 < t.bits → past t ≡ least t +ℤ pos (2 ^ t.bits)
 past_is t h = past_by t.signed t.bits h
 
+past_from : (s : Bool) (n : ℕ) → (least (record { signed = s; bits = n }) +ℤ pos (2 ^ n)) ≤ℤ past (record { signed = s; bits = n })
+past_from true zero = omega (arith, ints)
+past_from true (suc n) = omega (arith, ints, double (suc n) (omega arith))
+past_from false n = omega (arith, ints)
+
 least_by : (s : Bool) (n : ℕ) → least (record { signed = s; bits = n }) ≤ℤ pos 0
 least_by true n = omega (arith, ints)
 least_by false n = omega (arith, ints)
@@ -73,19 +78,25 @@ place_apart : (lo z : ℤ) (v : ℤ) (m : ℕ) → z ≡ v -ℤ lo → 0 < m →
 place_apart lo z v m e h =
     let f : v -ℤ (lo +ℤ int_rem_euclid z (pos m)) ≡ z -ℤ int_rem_euclid z (pos m) = omega (arith, ints) in rw f (rem_apart z m h)
 
--- the wrap is in its range
-pub wrapped_wraps : (t : IntType) (v : ℤ) → IsType t → IsWrapOf t v (wrapped t v)
+-- the wrap is in range, whatever the width is
+pub wrapped_in_range : (t : IntType) (v : ℤ) → InRange t (wrapped t v)
 unfolding wrapped
-wrapped_wraps t v h =
+wrapped_in_range t v =
     let p : 0 < 2 ^ t.bits = pow_pos t.bits in
     let lo : pos 0 ≤ℤ int_rem_euclid (v -ℤ least t) (pos (2 ^ t.bits)) = rem_from (v -ℤ least t) (2 ^ t.bits) p in
     let hi : int_rem_euclid (v -ℤ least t) (pos (2 ^ t.bits)) <ℤ pos (2 ^ t.bits) = rem_below_size (v -ℤ least t) (2 ^ t.bits) p in
     record {
-      in_range = record {
-        from = omega (arith, ints);
-        below = omega (arith, ints, past_is t h.some);
-      };
-      apart = place_apart (least t) (v -ℤ least t) v (2 ^ t.bits) refl p;
+      from = omega (arith, ints);
+      below = omega (arith, ints, past_from t.signed t.bits);
+    }
+
+-- it is a wrap
+pub wrapped_wraps : (t : IntType) (v : ℤ) → IsType t → IsWrapOf t v (wrapped t v)
+unfolding wrapped
+wrapped_wraps t v h =
+    record {
+      in_range = wrapped_in_range t v;
+      apart = place_apart (least t) (v -ℤ least t) v (2 ^ t.bits) refl (pow_pos t.bits);
     }
 
 -- 0 is in every range
@@ -93,6 +104,8 @@ pub zero_in_range : (t : IntType) → InRange t (pos 0)
 zero_in_range t = record { from = least_by t.signed t.bits; below = past_above t.signed t.bits }
 
 -- a number in range is its own wrap
+pub own_wrap : (t : IntType) (v : ℤ) → InRange t v → IsWrapOf t v v
+own_wrap t v r = record { in_range = r; apart = multiple _ 0 (2 ^ t.bits) (omega (arith, ints)) }
+
 pub wrapped_same : (t : IntType) (v : ℤ) → IsType t → InRange t v → wrapped t v ≡ v
-wrapped_same t v h r =
-    sym (wrapped_is t v v h.some (record { in_range = r; apart = multiple _ 0 (2 ^ t.bits) (omega (arith, ints)) }))
+wrapped_same t v h r = sym (wrapped_is t v v h.some (own_wrap t v r))

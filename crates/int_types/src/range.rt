@@ -53,11 +53,15 @@ fn wrap_by_remainder(ty: Ty, v: i128) -> i128
 
 /// The one number of the type's range that differs from `v` by a multiple of 2^bits. It is `v` itself where `v` is in
 /// range.
-#[tactic(auto, using(crate::proofs::Wrapped::wrapped_is))]
+#[tactic(auto, using(crate::proofs::Wrapped::wrapped_is, crate::proofs::Wrapped::own_wrap))]
 pub fn wrap(ty: Ty, v: i128) -> i128
     ensures relation { IsWrapOf ty v result }
     ensures value { result ≡ wrapped ty v }
 {
     let _bits = ty.bits();
-    wrap_by_remainder(ty, v)
+    if in_range(ty, v) {
+        v
+    } else {
+        wrap_by_remainder(ty, v)
+    }
 }
