@@ -1,3 +1,4 @@
+pub mod CallerLemmas
 pub mod Starts
 pub mod SumTest
 pub mod Steps
@@ -6,6 +7,9 @@ pub mod Touched
 pub mod Depth
 pub mod Numbers
 pub mod From
-pub mod Sum
-mod Examples
+pub mod Ranked
+pub mod Ends
+pub mod InRange
+pub mod Readable
+pub mod Examples
 mod ValidExamples

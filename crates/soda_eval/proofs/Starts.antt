@@ -10,7 +10,7 @@ use Rattle.soda_eval.specs.Runs.{starts_from}
 use Rattle.soda_ir.specs.Valid.{value_count}
 
 -- one more of the front of a list
-take-suc-cons : (q : PlainParam) (qs : List PlainParam) (p : ℕ) → take (suc p) (q ∷ qs) ≡ q ∷ take p qs
+pub take-suc-cons : (q : PlainParam) (qs : List PlainParam) (p : ℕ) → take (suc p) (q ∷ qs) ≡ q ∷ take p qs
 take-suc-cons q qs p = grind (arith, common_steps)
 
 pub starts_at : (k : ℕ) (qs : List PlainParam) (p : ℕ) → p < length qs → slice_index_or (starts_from k qs) p 0 ≡ k + value_count (take p qs)

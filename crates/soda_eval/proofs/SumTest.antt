@@ -1,11 +1,11 @@
 -- The test of a program of one sum, and what it says.
-use Rattle.std.proofs.Common.{◌≡◌, ℕ, ◌%◌, Bool, true, false, not, ◌&&◌, ◌||◌, ◌==◌, nat_le, List, [], ◌∷◌, length, Option, Some, None, ℤ, unsigned_abs, refl, sym, ◌∙◌, ap, arith, if◌then◌else◌}
+use Rattle.std.proofs.Common.{◌≡◌, ℕ, ◌%◌, Bool, true, false, not, ◌&&◌, ◌||◌, ◌==◌, nat_le, List, [], ◌∷◌, length, Option, Some, None, ℤ, unsigned_abs, refl, sym, ◌∙◌, ap, arith}
 use Rattle.std.specs.List.{list_all}
 use Rattle.std.proofs.lemmas.Bool.{and_from, and_parts, eqb-true, eq-eqb, false≢true, le-leb, leb-true, not-true}
 use Rattle.soda_words.specs.IntType.{IntType}
 use Rattle.soda_words.specs.declared.operators.BinOp.TheVariants.{LogOr, LogAnd, BitOr, BitXor, BitAnd, Eq, Ne, Lt, Le, Gt, Ge, Add, Sub, Mul, Div, Rem, Min, Max}
 use Rattle.soda_words.proofs.CallerLemmas.{is_word-itself}
-use Rattle.soda_words.specs.Names.{behind, is_free_name, is_word}
+use Rattle.soda_words.specs.Names.{is_free_name, is_word}
 use Rattle.soda_ir.specs.declared.program.Border.{Border}
 use Rattle.soda_ir.specs.declared.program.Border.TheVariants.{Ignore, Preserve}
 use Rattle.soda_ir.specs.declared.program.Role.{Role}

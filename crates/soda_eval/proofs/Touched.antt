@@ -1,5 +1,5 @@
 -- What a formula reads decides its tests and its value.
-use Rattle.std.proofs.Common.{◌≡◌, ℕ, Bool, true, false, ◌&&◌, List, ℤ, refl, ◌∙◌, ap}
+use Rattle.std.proofs.Common.{◌≡◌, ℕ, Bool, true, ◌&&◌, List, ℤ, refl, ◌∙◌, ap}
 use Rattle.std.proofs.lemmas.Bool.{and_parts}
 use Rattle.int_types.specs.Ranges.{wrapped}
 use Rattle.int_types.specs.Operators.{unary_value, binary_value, select_value}

@@ -5,7 +5,7 @@ use Rattle.int_types.specs.Ranges.{InRange}
 use Rattle.soda_ir.specs.declared.program.Border.TheVariants.{Ignore, Preserve}
 use Rattle.soda_ir.specs.declared.program.Role.TheVariants.{Input, Local, Output}
 use Rattle.soda_ir.specs.Points.{size, listed}
-use Rattle.soda_ir.specs.Program.{PlainParam, PlainProgram, PlainTensor, extents_at, preserves}
+use Rattle.soda_ir.specs.Program.{PlainParam, PlainProgram, PlainTensor, extents_at, outputs_of, preserves}
 use Rattle.soda_eval.specs.Arrays.{Stencil, Given, whole, after}
 use Rattle.soda_eval.specs.Points.{point}
 use Rattle.soda_eval.specs.Values.{Scope}
@@ -23,20 +23,6 @@ scope_of p =
 -- how many cells an array of so many rows has
 abbrev pub cells_at : PlainProgram → ℕ → ℕ
 cells_at p rows = size (extents_at p rows)
-
--- the numbers of the outputs, where the first of these tensors has the number k
-abbrev pub outputs_from : ℕ → List PlainTensor → List ℕ
-outputs_from k [] = []
-outputs_from k (t ∷ ts) =
-    elim t.role [
-      | Input ↦ outputs_from (suc k) ts
-      | Local ↦ outputs_from (suc k) ts
-      | Output ↦ k ∷ outputs_from (suc k) ts
-    ]
-
--- the numbers of the outputs of a program, in order
-abbrev pub outputs_of : PlainProgram → List ℕ
-outputs_of p = outputs_from 0 p.tensors
 
 -- the input of its number for each output, and None for every other tensor
 abbrev pub borders_from : ℕ → List PlainTensor → List (Option ℕ)

@@ -1,17 +1,16 @@
-//! What stencil programs mean, and their plain evaluation.
+//! What stencil programs mean: their types, values and arrays, and the evaluation of formulas.
 #![tactic(auto)]
 
 mod laws;
-mod locate;
-mod plain;
 mod scope;
-mod spot;
 mod sums;
 mod value;
 
-pub use laws::{arrays_are_defined, arrays_are_one, cell_from_any_store, points_are_numbered};
-pub use plain::{plain_cell, plain_run};
+pub use laws::{
+    arrays_are_defined, arrays_are_one, cell_from_any_store, cells_are_in_range,
+    formulas_are_readable, points_are_numbered, programs_have_meaning,
+};
 /// Want of memory.
 pub use std::alloc::AllocError as NoMemory;
 pub use sums::is_sum_program;
-pub use value::{Cells, eval};
+pub use value::{Cells, eval, type_of};

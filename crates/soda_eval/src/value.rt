@@ -1,12 +1,15 @@
-ghost use Rattle.std.specs.Prelude.{◌≡◌, ◌+◌, ◌<◌, List, ℤ, ℕ, length};
+ghost use Rattle.std.specs.Prelude.{◌≡◌, List, ℤ, ℕ, true, slice_index_or};
+ghost use Rattle.soda_words.specs.IntType.{int32};
 ghost use Rattle.int_types.specs.Ranges.{InRange};
-ghost use Rattle.soda_eval.specs.Values.{typed, valued, IsReadable};
 ghost use Rattle.soda_ir.specs.Program.{plain};
-ghost use Rattle.soda_eval.specs.Runs.{scope_of};
 ghost use Rattle.soda_ir.specs.Tree.{formula_of};
+ghost use Rattle.soda_ir.specs.Uses.{each_use, is_good_cell, is_good_place};
+ghost use Rattle.soda_eval.specs.Arrays.{Each};
+ghost use Rattle.soda_eval.specs.Runs.{HasValues, place_types, scope_of};
+ghost use Rattle.soda_eval.specs.Values.{typed, valued, IsReadable};
 
 use crate::scope::{param_type, param_value, tensor_type};
-use int_types::{binary, literal_type, select, unary, wrap};
+use int_types::{binary, common, literal_type, select, unary, wrap};
 use soda_ir::{Expr, Offset, Parts, Program};
 use soda_words::Ty;
 
@@ -19,10 +22,49 @@ pub trait Cells {
         ensures { result ≡ value self.now tensor offset.now.items };
 }
 
-/// The value of a formula. Every cell that it names is a tensor of the program, and `cells` has a value in that
-/// tensor's range for it.
+/// The type of a formula. Every tensor, param and place that it names is one of the program's.
+pub fn type_of(program: &Program, expr: &Expr) -> Ty
+    requires { each_use (is_good_cell (plain program.now)) (is_good_place (plain program.now)) (formula_of expr.now)
+        ≡ true }
+    ensures { result ≡ typed (scope_of (plain program.now)) (formula_of expr.now) }
+{
+    type_in(program.parts(), expr)
+}
+
+// The type of a formula. That of an operator is the same for all values, so 0 stands for them.
+#[tactic(auto, using(soda_ir::proofs::CallerLemmas::levels))]
+fn type_in(parts: &Parts, expr: &Expr) -> Ty
+    requires { each_use (is_good_cell (plain parts.now)) (is_good_place (plain parts.now)) (formula_of expr.now)
+        ≡ true }
+    ensures { result ≡ typed (scope_of (plain parts.now)) (formula_of expr.now) }
+{
+    match expr {
+        Expr::Num(n) => literal_type(*n),
+        Expr::Cell { tensor, .. } => tensor_type(parts, *tensor),
+        Expr::Par { param, .. } => param_type(parts, *param),
+        Expr::Un(op, a) => unary(*op, type_in(parts, a.get()), 0).0,
+        Expr::Bin(op, a, b) => {
+            let left = type_in(parts, a.get());
+            let right = type_in(parts, b.get());
+            binary(*op, left, 0, right, 0).0
+        }
+        Expr::Select(_, a, b) => {
+            let left = type_in(parts, a.get());
+            let right = type_in(parts, b.get());
+            common(left, right)
+        }
+        Expr::Cast(ty, _) => *ty,
+    }
+}
+
+/// The value of a formula. Every tensor, param and place that it names is one of the program's, `cells` has a value in
+/// the tensor's range for each cell that it reads, and `params` has the values of all params in order, in range.
 pub fn eval<C: Cells>(program: &Program, expr: &Expr, cells: &C, params: &[i128]) -> i128
-    requires { IsReadable (scope_of (plain program.now)) (C.value cells.now) params.now (formula_of expr.now) }
+    requires uses { each_use (is_good_cell (plain program.now)) (is_good_place (plain program.now))
+        (formula_of expr.now) ≡ true }
+    requires params { HasValues (place_types (plain program.now).params) params.now }
+    requires cells { Each (λ t o. InRange (slice_index_or (scope_of (plain program.now)).tensors t int32)
+        (C.value cells.now t o)) (formula_of expr.now) }
     ensures { result ≡ valued (scope_of (plain program.now)) (C.value cells.now) params.now (formula_of expr.now) }
 {
     evaluate(program.parts(), expr, cells, params).1

@@ -1,5 +1,10 @@
--- What crates above cite: one level of a tree, and that the live tensors and reads of a sound program can be counted.
+-- What crates above cite: one level of a tree, lists of values, distances, rounds, and that the live tensors and reads of
+-- a sound program can be counted.
+pub use Rattle.soda_ir.proofs.Distance.{linear-empty, reach-cons, reach_of}
 pub use Rattle.soda_ir.proofs.Groups.{countable}
+pub use Rattle.soda_ir.proofs.Lists.{ext, get-listed, get-listed-past, length-listed}
+pub use Rattle.soda_ir.proofs.Reached.{reached_none, reached_step, some_below_same}
+pub use Rattle.soda_ir.proofs.Settled.{past_last, ready_more, ready_placed}
 use Rattle.std.proofs.Common.{◌≡◌, ℕ, ℤ, refl}
 use Rattle.soda_words.specs.IntType.{IntType}
 use Rattle.soda_words.specs.declared.operators.UnOp.{UnOp}

@@ -1,5 +1,5 @@
 -- A program as plain data.
-use Rattle.std.specs.Prelude.{ℕ, Bool, true, false, List, [], ◌∷◌, ◌++◌, map, Option, option_map}
+use Rattle.std.specs.Prelude.{ℕ, suc, Bool, true, false, List, [], ◌∷◌, ◌++◌, map, Option, option_map}
 use Rattle.soda_words.specs.IntType.{IntType}
 use Rattle.soda_ir.specs.declared.program.Border.{Border}
 use Rattle.soda_ir.specs.declared.program.Border.TheVariants.{Ignore, Preserve}
@@ -66,3 +66,17 @@ preserves p = elim p.border [ Ignore ↦ false | Preserve ↦ true ]
 abbrev pub input_types : List PlainTensor → List IntType
 input_types [] = []
 input_types (t ∷ ts) = elim t.role [ Input ↦ t.ty ∷ input_types ts | Local ↦ input_types ts | Output ↦ input_types ts ]
+
+-- the numbers of the outputs, where the first of these tensors has the number k
+abbrev pub outputs_from : ℕ → List PlainTensor → List ℕ
+outputs_from k [] = []
+outputs_from k (t ∷ ts) =
+    elim t.role [
+      | Input ↦ outputs_from (suc k) ts
+      | Local ↦ outputs_from (suc k) ts
+      | Output ↦ k ∷ outputs_from (suc k) ts
+    ]
+
+-- the numbers of the outputs of a program, in order
+abbrev pub outputs_of : PlainProgram → List ℕ
+outputs_of p = outputs_from 0 p.tensors

@@ -52,8 +52,8 @@ PrintsDue h a old new is.OutFault = new ≡ old
 PrintsDue h a old new is.Memory = new ≡ old
 PrintsDue h a old new is.NotYetBuilt = new ≡ old
 
--- by how the run ended: at a fault of `out`, which comes in a mode that prints, a prefix of the lines; want of memory may
--- come before them or in their midst
+-- by how the run ended: at a fault of `out`, which comes in a mode that prints, a prefix of the lines; want of memory
+-- may come before them or in their midst
 abbrev pub PrintsBy : Ending → Holding → Asked → (old new : List ℕ) → Status → Type 0
 PrintsBy due h a old new status = PrintsDue h a old new status
 PrintsBy (file_fault role) h a old new status = new ≡ old

@@ -18,10 +18,10 @@ ghost use Rattle.sodac_cli.specs.Work.{input_names, output_names, output_texts, 
 use crate::Status;
 use job_files::{StepFail, create_all, open_all, read_next, write_to};
 use job_parts::{array_text, read_cells};
-use soda_eval::plain_run;
 use soda_io::{FileRole, Files, IoErr};
 use soda_ir::{NoMemory, Program};
 use soda_parse::texts_are_one;
+use soda_run::plain_run;
 use sqlite_items::Items;
 use std::alloc::Global;
 use whole_files::ReadFail;

@@ -50,7 +50,8 @@ fn line(alloc: Global, status: Status) -> Result<String, AllocError>
 /// more is put then.
 pub(crate) fn report<E: Sink>(alloc: Global, status: Status, err: &mut E) -> Status
     ensures same { (result ≡ status) ⊎ ((result ≡ Memory) × (E.faults err.new ≡ E.faults err.old)) }
-    ensures reports { E.tells → Reports (E.taken err.old) (E.taken err.new) (E.faults err.old) (E.faults err.new) result }
+    ensures reports { E.tells → Reports (E.taken err.old) (E.taken err.new) (E.faults err.old)
+        (E.faults err.new) result }
 {
     let Ok(line) = line(alloc, status) else {
         return Status::Memory;

@@ -1,0 +1,11 @@
+use Rattle.std.proofs.Common.{◌≡◌, ℕ, ◌*◌, ◌<◌, length, pos, slice_index_or}
+use Rattle.soda_ir.specs.Program.{plain}
+use Rattle.soda_eval.specs.Runs.{cells_at}
+use Rattle.soda_run.specs.pieces.Filled.{made}
+use Rattle.soda_run.proofs.fill.Target.fill.Given as goal
+
+abbrev pub invariant-loop-line : goal.invariant-loop-line
+invariant-loop-line l = record {
+  whole : length l.cells ≡ cells_at (plain l.self.program.now) l.self.rows;
+  done : (i : ℕ) → i < l.line * l.extent → slice_index_or l.cells i (pos 0) ≡ made (plain l.self.program.now) l.self.rows l.self.arrays.now l.self.params.now l.self.tensor l.self.margins.now l.self.outside.now i;
+}

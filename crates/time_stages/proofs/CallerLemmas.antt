@@ -1,0 +1,15 @@
+-- What crates above cite: what stands where in the placing order, no margins are margins, and what is at most one number is
+-- at most a greater one.
+pub use Rattle.time_stages.proofs.Made.{none_are_margins, over_inputs}
+pub use Rattle.time_stages.proofs.Order.{all_there, formula_passes, next_at, next_parts, order_behind, order_below, there_push}
+use Rattle.std.proofs.Common.{ℕ, ◌≤◌, arith}
+use Rattle.time_stages.specs.declared.margins.Margins.{Margins}
+use Rattle.time_stages.specs.Margins.{AreMargins}
+
+pub most_margins : (dims least most : ℕ) (m : Margins) → least ≤ most → AreMargins dims least m → AreMargins dims most m
+most_margins dims least most m l a = record {
+  low_dims = a.low_dims;
+  high_dims = a.high_dims;
+  low_most = λ d. omega (arith, a.low_most d);
+  high_most = λ d. omega (arith, a.high_most d);
+}
