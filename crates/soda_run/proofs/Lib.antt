@@ -9,3 +9,4 @@ pub mod Sequence
 pub mod Begun
 pub mod Exchanged
 pub mod Reached
+pub mod CellCount

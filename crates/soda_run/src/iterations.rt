@@ -237,12 +237,13 @@ fn run_all(
         (run_of (plain program.now) rows params.now inputs.now ((plain program.now).iterate - 1)) params.now
         (placing_order (plain program.now)) arrays.new) }
 {
-    let mut margins = first_margins(alloc, program, plan)?;
+    let margins = first_margins(alloc, program, plan)?;
     fill_all(alloc, program, rows, plan, params, &margins, arrays);
+    let mut last = margins;
     for done in 0..program.parts().iterate - 1 {
         exchange(plan.outputs.as_slice(), arrays);
-        margins = next_margins(alloc, program, plan, &margins)?;
-        fill_all(alloc, program, rows, plan, params, &margins, arrays);
+        last = next_margins(alloc, program, plan, &last)?;
+        fill_all(alloc, program, rows, plan, params, &last, arrays);
     }
     Ok(())
 }

@@ -12,5 +12,6 @@ mod spot;
 
 pub use laws::regions_keep_margins;
 pub use plain::{plain_cell, plain_run};
+pub use sizes::array_cells;
 /// Want of memory.
 pub use std::alloc::AllocError as NoMemory;

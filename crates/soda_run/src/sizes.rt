@@ -1,9 +1,10 @@
 ghost use Rattle.std.specs.Prelude.{◌≡◌, ◌^◌, drop, min, slice_index_or, IfOk};
 ghost use Rattle.soda_ir.specs.Points.{size};
 ghost use Rattle.soda_ir.specs.Program.{extents_at, plain};
+ghost use Rattle.soda_eval.specs.Runs.{cells_at};
 
 use crate::NoMemory;
-use soda_ir::Parts;
+use soda_ir::{Parts, Program};
 use sqlite_items::Items;
 use std::alloc::Global;
 
@@ -48,4 +49,11 @@ pub(crate) fn all_extents(alloc: Global, parts: &Parts, rows: u64) -> Result<Ite
     let mut extents = Items::from_slice(alloc, parts.extents.as_slice())?;
     extents.push(rows)?;
     Ok(extents)
+}
+
+/// How many cells an array of so many rows has.
+pub fn array_cells(program: &Program, rows: u64) -> u128
+    ensures { result ≡ cells_at (plain program.now) rows }
+{
+    size(program.parts().extents.as_slice()) * rows as u128
 }

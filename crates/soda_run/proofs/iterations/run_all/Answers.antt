@@ -14,10 +14,10 @@ returns-in_err-margins c =
     let P : Type 0 = AreFilled (plain c.args.program.now) c.args.rows (run_of (plain c.args.program.now) c.args.rows c.args.params.now c.args.inputs.now (c.args.program.now.iterate - 1)) c.args.params.now (placing_order (plain c.args.program.now)) c.args.arrays.now in
     IfOk-from_err c.from_residual.result (λ u. P) c.from_residual.ensures.0
 
-pub returns-in_err-margins-2 : goal.returns-in_err-margins-2
-returns-in_err-margins-2 c =
+pub returns-in_err-last : goal.returns-in_err-last
+returns-in_err-last c =
     let P : Type 0 = AreFilled (plain c.args.program.now) c.args.rows (run_of (plain c.args.program.now) c.args.rows c.args.params.now c.args.inputs.now (c.args.program.now.iterate - 1)) c.args.params.now (placing_order (plain c.args.program.now)) c.exchange.new.arrays in
-    IfOk-from_err c.from_residual-in_err-margins-2.result (λ u. P) c.from_residual-in_err-margins-2.ensures.0
+    IfOk-from_err c.from_residual-in_err-last.result (λ u. P) c.from_residual-in_err-last.ensures.0
 
 pub fill_all-requires-clause-begun : goal.fill_all-requires-clause-begun
 fill_all-requires-clause-begun c =
@@ -64,8 +64,8 @@ fill_all-requires-in-loop-done-clause-begun c =
     let sound = c.requires.plan.sound in
     let t = c.loop-done.done in
     let more : suc t < p.iterate = omega (arith, c.loop-done-test.true, ap (λ (q : Parts). q.iterate) c.parts.ensures.value) in
-    let made : AreMade p (suc t) c.in_ok-margins-2.margins.items = c.in_ok-margins-2.ensures t (subst (AreMade p t) (sym c.deref-in-loop-done.ensures.value) c.loop-done.invariant.margins) in
-    let begins = begins_from p sound c.args.rows c.args.params.now c.args.inputs.now c.requires.inputs (suc t) c.deref-in-loop-done-2.result.now c.in_ok-margins-2.margins.items c.deref-in-loop-done-2.ensures.value more made in
+    let made : AreMade p (suc t) c.in_ok-last.last.items = c.in_ok-last.ensures t (subst (AreMade p t) (sym c.deref-in-loop-done.ensures.value) c.loop-done.invariant.margins) in
+    let begins = begins_from p sound c.args.rows c.args.params.now c.args.inputs.now c.requires.inputs (suc t) c.deref-in-loop-done-2.result.now c.in_ok-last.last.items c.deref-in-loop-done-2.ensures.value more made in
     let begun = exchanged_begins p sound c.args.rows c.args.params.now c.args.inputs.now t c.as_slice.result.now c.loop-done.arrays c.exchange.new.arrays (c.as_slice.ensures ∙ c.requires.plan.outputs) more c.loop-done.invariant.filled c.exchange.ensures.many c.exchange.ensures.inputs c.exchange.ensures.whole in
     (run_of p c.args.rows c.args.params.now c.args.inputs.now (suc t), begins, begun)
 
@@ -75,13 +75,13 @@ loop-done-preserved c =
     let sound = c.requires.plan.sound in
     let t = c.loop-done.done in
     let more : suc t < p.iterate = omega (arith, c.loop-done-test.true, ap (λ (q : Parts). q.iterate) c.parts.ensures.value) in
-    let made : AreMade p (suc t) c.in_ok-margins-2.margins.items = c.in_ok-margins-2.ensures t (subst (AreMade p t) (sym c.deref-in-loop-done.ensures.value) c.loop-done.invariant.margins) in
-    let begins = begins_from p sound c.args.rows c.args.params.now c.args.inputs.now c.requires.inputs (suc t) c.deref-in-loop-done-2.result.now c.in_ok-margins-2.margins.items c.deref-in-loop-done-2.ensures.value more made in
+    let made : AreMade p (suc t) c.in_ok-last.last.items = c.in_ok-last.ensures t (subst (AreMade p t) (sym c.deref-in-loop-done.ensures.value) c.loop-done.invariant.margins) in
+    let begins = begins_from p sound c.args.rows c.args.params.now c.args.inputs.now c.requires.inputs (suc t) c.deref-in-loop-done-2.result.now c.in_ok-last.last.items c.deref-in-loop-done-2.ensures.value more made in
     let begun = exchanged_begins p sound c.args.rows c.args.params.now c.args.inputs.now t c.as_slice.result.now c.loop-done.arrays c.exchange.new.arrays (c.as_slice.ensures ∙ c.requires.plan.outputs) more c.loop-done.invariant.filled c.exchange.ensures.many c.exchange.ensures.inputs c.exchange.ensures.whole in
     let filled = c.fill_all-in-loop-done.ensures (run_of p c.args.rows c.args.params.now c.args.inputs.now (suc t)) begins begun in
     let next : suc t ≡ t + 1 = sym (add-one t) in
     record {
-      margins = subst (λ (n : ℕ). AreMade p n c.in_ok-margins-2.margins.items) next made;
+      margins = subst (λ (n : ℕ). AreMade p n c.in_ok-last.last.items) next made;
       filled = subst (λ (n : ℕ). AreFilled p c.args.rows (run_of p c.args.rows c.args.params.now c.args.inputs.now n) c.args.params.now (placing_order p) c.fill_all-in-loop-done.new.arrays) next filled;
     }
 

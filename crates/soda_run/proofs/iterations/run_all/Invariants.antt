@@ -6,6 +6,6 @@ use Rattle.soda_run.proofs.iterations.run_all.Given as goal
 
 abbrev pub invariant-loop-done : goal.invariant-loop-done
 invariant-loop-done l = record {
-  margins : AreMade (plain l.program) l.done l.margins.items;
+  margins : AreMade (plain l.program) l.done l.last.items;
   filled : AreFilled (plain l.program) l.rows (run_of (plain l.program) l.rows l.params l.inputs l.done) l.params (placing_order (plain l.program)) l.arrays;
 }
