@@ -1,9 +1,10 @@
 -- What crates above cite: one level of a tree, lists of values, distances, rounds, and that the live tensors and reads of
 -- a sound program can be counted.
-pub use Rattle.soda_ir.proofs.Distance.{linear-empty, reach-cons, reach_of}
+pub use Rattle.soda_ir.proofs.Distance.{distance_bound, linear-empty, near_at, reach-cons, reach_of}
 pub use Rattle.soda_ir.proofs.Groups.{countable}
-pub use Rattle.soda_ir.proofs.Lists.{ext, get-listed, get-listed-past, length-listed}
-pub use Rattle.soda_ir.proofs.Reached.{reached_none, reached_step, some_below_same}
+pub use Rattle.soda_ir.proofs.Counted.{no_output, same_reads, wanted_last, wanted_step}
+pub use Rattle.soda_ir.proofs.Lists.{ext, get-listed, get-listed-past, known_list, length-listed, listed_same}
+pub use Rattle.soda_ir.proofs.Reached.{count_below_same, reached_none, reached_step, some_below_same, sum_below_same}
 pub use Rattle.soda_ir.proofs.Settled.{past_last, ready_more, ready_placed}
 use Rattle.std.proofs.Common.{◌≡◌, ℕ, ℤ, refl}
 use Rattle.soda_words.specs.IntType.{IntType}

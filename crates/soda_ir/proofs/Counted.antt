@@ -20,7 +20,7 @@ pub wanted_step : (p : PlainProgram) (l x : ℕ) → is_wanted p (suc l) x ≡ (
 unfolding is_wanted
 wanted_step p l x = refl
 
-no_output : (p : PlainProgram) (x : ℕ) → length p.tensors ≤ x → is_output p x ≡ false
+pub no_output : (p : PlainProgram) (x : ℕ) → length p.tensors ≤ x → is_output p x ≡ false
 no_output p x h = past_last (λ t. is_output_role t.role) p x h
 
 one_at_most : (b : Bool) (k n : ℕ) → k ≤ n → k + (if b then 1 else 0) ≤ suc n
@@ -59,7 +59,7 @@ no_reads p y l =
     ap (λ f. by_formula f [] (formula_reads (extents_at p 1)) ++ border_reads p y) none ∙ bare
 
 -- the reads that the code has are those of the program
-same_reads : (p : PlainProgram) (y : ℕ) → slice_index_or (listed (tensor_reads p) (length p.tensors)) y [] ≡ tensor_reads p y
+pub same_reads : (p : PlainProgram) (y : ℕ) → slice_index_or (listed (tensor_reads p) (length p.tensors)) y [] ≡ tensor_reads p y
 same_reads p y =
     ⊎_elim (λ (l : y < length p.tensors). get-listed (tensor_reads p) (length p.tensors) y [] l) (λ (l : length p.tensors ≤ y). get-listed-past (tensor_reads p) (length p.tensors) y [] l ∙ sym (no_reads p y l)) (cases_lt y (length p.tensors))
 

@@ -3,7 +3,7 @@ use Rattle.std.proofs.Common.{◌≡◌, ℕ, zero, suc, ◌+◌, ◌<◌, ◌�
 use Rattle.std.specs.List.{list_all}
 use Rattle.std.proofs.lemmas.Bool.{and_from, and_parts, cases_lt}
 use Rattle.std.proofs.lemmas.Grind.{common_steps}
-use Rattle.std.proofs.lemmas.List.{get_or_append_left, get_or_past, get_or_push, map-append, take_more}
+use Rattle.std.proofs.lemmas.List.{ext_get_or, get_or_append_left, get_or_past, get_or_push, map-append, take_more}
 use Rattle.std.proofs.lemmas.List.Folds.{list_all-append, list_all-map}
 use Rattle.soda_ir.specs.declared.program.Role.TheVariants.{Input, Local, Output}
 use Rattle.soda_ir.specs.declared.program.Tensor.{Tensor}
@@ -27,6 +27,16 @@ get-listed f (suc n) x d h =
 
 pub get-listed-past : {A : Type 0} → (f : ℕ → A) (n x : ℕ) (d : A) → n ≤ x → slice_index_or (listed f n) x d ≡ d
 get-listed-past f n x d h = get_or_past (listed f n) x d (rw length-listed h)
+
+-- a list that is known at each place
+pub known_list : {A : Type 0} → (f : ℕ → A) (n : ℕ) (xs : List A) (d : A) → length xs ≡ n → ((x : ℕ) → x < n → slice_index_or xs x d ≡ f x) → xs ≡ listed f n
+known_list f n xs d e h =
+    ext_get_or d xs (listed f n) (e ∙ sym (length-listed f n)) (λ i l. let m : i < n = omega arith in h i m ∙ sym (get-listed f n i d m))
+
+pub listed_same : {A : Type 0} → (f g : ℕ → A) (n : ℕ) → ((x : ℕ) → x < n → f x ≡ g x) → listed f n ≡ listed g n
+listed_same f g zero h = refl
+listed_same f g (suc n) h =
+    ap (λ xs. xs ++ f n ∷ []) (listed_same f g n (λ x l. h x (omega arith))) ∙ ap (λ y. listed g n ++ y ∷ []) (h n (omega arith))
 
 -- all marks are set exactly where each number passes
 pub all_listed : (f : ℕ → Bool) (n : ℕ) → list_all (λ m. m) (listed f n) ≡ true → (x : ℕ) → x < n → f x ≡ true

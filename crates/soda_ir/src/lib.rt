@@ -18,11 +18,12 @@ mod written;
 
 pub use expr::{Expr, Offset};
 pub use limit::LimitKind;
-pub use live::{live_count, read_count};
+pub use live::{live_count, live_tensors, read_count};
 pub use make::MakeRefusal;
 pub use params::value_count;
 pub use placing::placed_tensors;
 pub use program::{Border, Param, Parts, Program, Role, Tensor};
+pub use reads::{Read, all_reads};
 /// Want of memory.
 pub use std::alloc::AllocError as NoMemory;
 pub use valid::{fill_burst, outputs_fit};

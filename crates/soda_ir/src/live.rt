@@ -6,6 +6,7 @@ ghost use Rattle.soda_ir.specs.Counts.{
   count_below,
   distinct_count,
   is_input,
+  is_live,
   is_output,
   is_reached,
   live_count,
@@ -237,6 +238,24 @@ pub(crate) fn tally(alloc: Global, parts: &Parts) -> Result<Totals, NoMemory>
         wanted = outputs_needed(alloc, parts, &marks)?;
     }
     Ok(Totals { live, reads })
+}
+
+/// Which tensors are live, iteration by iteration from the last to the first: for each a mark for every tensor. Its
+/// cells are there and near, and the limits `iterate`, `dims`, `tile` and `tensors` are kept.
+pub fn live_tensors(alloc: Global, parts: &Parts) -> Result<Vec<Items<bool>>, NoMemory>
+    requires { IsCountable (plain parts.now) }
+    ensures { IfOk result (λ live. live.items ≡ listed (λ later. listed (is_live (plain parts.now) later)
+        (length parts.now.tensors)) (plain parts.now).iterate) }
+{
+    let graph = all_reads(alloc, parts)?;
+    let mut live = Vec::new(alloc);
+    let mut wanted = outputs(alloc, parts)?;
+    for later in 0..parts.iterate {
+        let marks = reached(alloc, &graph, &wanted)?;
+        wanted = outputs_needed(alloc, parts, &marks)?;
+        live.push(Items::from_vec(marks))?;
+    }
+    Ok(live)
 }
 
 /// How many live tensors a program of these parts has: the inputs of its first iteration, and the live locals and

@@ -27,8 +27,10 @@ use std::alloc::Global;
 
 /// A read of a cell: the number of the tensor that is read, and how far away the cell stands in the array, in cells.
 #[derive(Clone, Copy)]
-pub(crate) struct Read {
+pub struct Read {
+    /// The number of the tensor that is read.
     pub of: u32,
+    /// How far behind the reader's own place the cell stands, in cells; negative for a place before it.
     pub offset: i64,
 }
 
@@ -163,8 +165,9 @@ fn reads_of(alloc: Global, parts: &Parts, tensor: u32, number: u32) -> Result<It
     Ok(Items::from_vec(reads))
 }
 
-/// The reads of each tensor.
-pub(crate) fn all_reads(alloc: Global, parts: &Parts) -> Result<Vec<Items<Read>>, NoMemory>
+/// The reads of each tensor in an iteration, from the left: of its formula, and under preserve that of an output's own
+/// input. Its cells are there and near, and the limits `iterate`, `dims`, `tile` and `tensors` are kept.
+pub fn all_reads(alloc: Global, parts: &Parts) -> Result<Vec<Items<Read>>, NoMemory>
     requires { IsCountable (plain parts.now) }
     ensures { IfOk result (λ all. all.items ≡ listed (tensor_reads (plain parts.now)) (length parts.now.tensors)) }
 {
