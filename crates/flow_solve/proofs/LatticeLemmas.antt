@@ -15,7 +15,7 @@ greater_delays [] others = others
 greater_delays (delay ∷ delays) [] = delay ∷ delays
 greater_delays (delay ∷ delays) (other ∷ others) = max delay other ∷ greater_delays delays others
 
-lesser_at : (xs ys : List ℕ) (t : ℕ) → get_or (lesser_delays xs ys) t 0 ≡ min (get_or xs t 0) (get_or ys t 0)
+pub lesser_at : (xs ys : List ℕ) (t : ℕ) → get_or (lesser_delays xs ys) t 0 ≡ min (get_or xs t 0) (get_or ys t 0)
 lesser_at [] ys t = omega arith
 lesser_at (x ∷ xs) [] t = omega arith
 lesser_at (x ∷ xs) (y ∷ ys) zero = refl
@@ -27,7 +27,7 @@ greater_at (x ∷ xs) [] t = omega arith
 greater_at (x ∷ xs) (y ∷ ys) zero = refl
 greater_at (x ∷ xs) (y ∷ ys) (suc t) = greater_at xs ys t
 
-length-lesser : (xs ys : List ℕ) → length xs ≡ length ys → length (lesser_delays xs ys) ≡ length xs
+pub length-lesser : (xs ys : List ℕ) → length xs ≡ length ys → length (lesser_delays xs ys) ≡ length xs
 length-lesser [] ys e = refl
 length-lesser (x ∷ xs) [] e = omega arith
 length-lesser (x ∷ xs) (y ∷ ys) e = omega (arith, length-lesser xs ys (omega arith))
@@ -56,7 +56,7 @@ greater_meets reads a b meets_a meets_b = λ k d lt.
     omega (arith, ints)
 
 -- a bound of the ages of a tensor's reads bounds its storage
-storage_within : (reads : List Read) (delays : List ℕ) (t cells : ℕ) → All (λ r. r.of ≡ t → age delays r ≤ℤ pos cells) reads → storage_of reads delays t ≤ cells
+pub storage_within : (reads : List Read) (delays : List ℕ) (t cells : ℕ) → All (λ r. r.of ≡ t → age delays r ≤ℤ pos cells) reads → storage_of reads delays t ≤ cells
 storage_within reads delays t cells bound =
     ⊎_elim (λ none. omega arith)
     (λ some.

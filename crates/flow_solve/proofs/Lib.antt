@@ -10,3 +10,5 @@ pub mod ConserveLemmas
 pub mod MoveLemmas
 pub mod StartLemmas
 pub mod StepLemmas
+pub mod Pressed
+pub mod Existence

@@ -17,7 +17,7 @@ mod unit;
 mod walks;
 
 pub use arc::{Arc, Longest};
-pub use laws::least_plans_meet;
+pub use laws::{least_plans_meet, plans_exist};
 pub use limits::{MOST_ARC_LENGTH, MOST_ARCS, MOST_NODES};
 pub use solver::solve;
 pub use walks::longest;
