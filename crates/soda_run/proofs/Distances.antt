@@ -98,7 +98,7 @@ module _ (ns : List ℕ) (rows i : ℕ) (o : List ℤ) where
   abbrev target : List ℤ
   target = moved (point ext i) o
 
-  read_number : i < size ext → length o ≡ suc (length ns) → in_box ext target ≡ true → pos i +ℤ linear (ns ++ 1 ∷ []) o ≡ pos (unsigned_abs (linear ext target))
+  pub read_number : i < size ext → length o ≡ suc (length ns) → in_box ext target ≡ true → pos i +ℤ linear (ns ++ 1 ∷ []) o ≡ pos (unsigned_abs (linear ext target))
   read_number h l e =
       let many : length ext ≡ suc (length ns) = omega (arith, length-append ns (rows ∷ [])) in
       let m : linear ext target ≡ linear ext (point ext i) +ℤ linear ext o = linear_moved ext (point ext i) o (length-point ext i) (l ∙ sym many) in

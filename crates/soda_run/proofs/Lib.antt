@@ -10,3 +10,4 @@ pub mod Begun
 pub mod Exchanged
 pub mod Reached
 pub mod CellCount
+pub mod CallerLemmas

@@ -13,5 +13,6 @@ mod spot;
 pub use laws::regions_keep_margins;
 pub use plain::{plain_cell, plain_run};
 pub use sizes::array_cells;
+pub use spot::distance;
 /// Want of memory.
 pub use std::alloc::AllocError as NoMemory;

@@ -48,8 +48,8 @@ fn outward(d: i64, n: u64, rest: i128) -> i128
     d as i128 + along
 }
 
-// How far away in the array a cell at an offset stands; the last extent is no matter.
-fn distance(extents: &[u64], offset: &[i64]) -> i128
+/// How far away in the array a cell at an offset stands, in cells; the last extent is no matter, and the others are given.
+pub fn distance(extents: &[u64], offset: &[i64]) -> i128
     requires { reach extents.now ≤ 2 ^ 26 }
     ensures value { result ≡ linear (extents.now ++ 1 ∷ []) offset.now }
     ensures bound { unsigned_abs result ≤ 2 ^ 63 * reach extents.now }

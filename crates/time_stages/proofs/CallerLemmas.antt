@@ -1,7 +1,11 @@
--- What crates above cite: what stands where in the placing order, no margins are margins, and what is at most one number is
--- at most a greater one.
+-- What crates above cite: what stands where in the placing order, no margins are margins, what is at most one number is at
+-- most a greater one, and what staged tensors and their reads are.
 pub use Rattle.time_stages.proofs.Made.{none_are_margins, over_inputs}
 pub use Rattle.time_stages.proofs.Order.{all_there, formula_passes, next_at, next_parts, order_behind, order_below, there_push}
+pub use Rattle.time_stages.proofs.OutputNumbers.{border_is_input}
+pub use Rattle.time_stages.proofs.Sources.{each_staged, own_margins, own_turn, place_in, reads_by_it, same_as, source_staged}
+pub use Rattle.time_stages.proofs.StagedReads.{get_at, place_within, reads_counted}
+pub use Rattle.time_stages.proofs.StagedCounts.{tensors_counted}
 use Rattle.std.proofs.Common.{ℕ, ◌≤◌, arith}
 use Rattle.time_stages.specs.declared.margins.Margins.{Margins}
 use Rattle.time_stages.specs.Margins.{AreMargins}

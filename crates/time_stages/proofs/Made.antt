@@ -69,7 +69,7 @@ over_one p inputs m h (suc k) x e =
     ∙ sym (over_step p inputs k x)) (λ (l : length p.tensors ≤ x). absurd (false≢true (sym (past_last (λ t. by_formula t.formula true (every (λ y o. has_place p k y))) p x l) ∙ e))) (cases_lt x (length p.tensors))
 
 -- a tensor is an input exactly where it has no formula
-input_none : (ts : List PlainTensor) (x : ℕ) → list_all has_formula_if_no_input ts ≡ true → elim (slice_get ts x) [ None ↦ false | Some t ↦ is_input_role t.role ] ≡ true → slice_index_or (map (λ t. t.formula) ts) x None ≡ None
+pub input_none : (ts : List PlainTensor) (x : ℕ) → list_all has_formula_if_no_input ts ≡ true → elim (slice_get ts x) [ None ↦ false | Some t ↦ is_input_role t.role ] ≡ true → slice_index_or (map (λ t. t.formula) ts) x None ≡ None
 input_none [] x h e = absurd (false≢true e)
 input_none (t ∷ ts) zero h e =
     elim t.formula as (λ (o : Option Formula). elim o [ None ↦ is_input_role t.role | Some f ↦ not (is_input_role t.role) ] ≡ true → o ≡ None) [

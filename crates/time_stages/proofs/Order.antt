@@ -175,7 +175,7 @@ all_there p s x l =
     ⊎_elim (λ (full : length p.tensors ≤ count_below (is_there p (placing_order p)) (length p.tensors)). count_full (is_there p (placing_order p)) (length p.tensors) full x l) (λ (c : (y : ℕ) → y < length p.tensors → is_there p (placing_order p) y ≡ true). c x l) (filled p s.placed (length p.tensors))
 
 -- where a number stands in a list
-among_split : (xs : List ℕ) (x : ℕ) → is_among x xs ≡ true → (before : List ℕ) × (after : List ℕ) × (xs ≡ before ++ x ∷ after)
+pub among_split : (xs : List ℕ) (x : ℕ) → is_among x xs ≡ true → (before : List ℕ) × (after : List ℕ) × (xs ≡ before ++ x ∷ after)
 among_split [] x e = absurd (false≢true e)
 among_split (y ∷ ys) x e =
     elim (y == x) as (λ (b : Bool). (y == x) ≡ b → (b || is_among x ys) ≡ true → (before : List ℕ) × (after : List ℕ) × (y ∷ ys ≡ before ++ x ∷ after)) [

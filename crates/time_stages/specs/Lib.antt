@@ -1,3 +1,4 @@
 pub mod Placing
 pub mod Margins
+pub mod Staged
 pub mod pieces

@@ -183,7 +183,8 @@ fn no_margins(alloc: Global, dims: usize) -> Result<Margins, NoMemory>
     Ok(Margins { low, high })
 }
 
-fn copied(alloc: Global, margins: &Margins) -> Result<Margins, NoMemory>
+/// A copy.
+pub(crate) fn copied(alloc: Global, margins: &Margins) -> Result<Margins, NoMemory>
     ensures { IfOk result (λ m. m ≡ margins.now) }
 {
     let low = Items::from_slice(alloc, margins.low.as_slice())?;
@@ -244,8 +245,8 @@ fn tensor_margins(
 }
 
 /// The margins of every tensor, in number order, where these are those of the inputs; an input that none are given for
-/// has none. The order is the placing order. No margin of an input is above 2^39, and none of a tensor is more than 2^24
-/// above the greatest of the inputs'.
+/// has none. The order is the placing order. No margin of an input is above 2^39, and none of a tensor is more than
+/// 2^24 above the greatest of the inputs'.
 pub fn margins_over(
     alloc: Global,
     program: &Program,

@@ -10,8 +10,8 @@ use crate::NoMemory;
 use soda_ir::{Expr, Parts, Program};
 use std::alloc::Global;
 
-// The mark of a tensor, and false where there is none.
-fn is_marked(marks: &[bool], tensor: u32) -> bool
+/// The mark of a tensor, and false where there is none.
+pub(crate) fn is_marked(marks: &[bool], tensor: u32) -> bool
     ensures { result ≡ slice_index_or marks.now tensor false }
 {
     match marks.get(tensor as usize) {
@@ -66,8 +66,8 @@ fn next_tensor(parts: &Parts, marks: &[bool]) -> Option<u32>
     None
 }
 
-// Whether a tensor is an input.
-fn is_input(parts: &Parts, tensor: u32) -> bool
+/// Whether a tensor is an input.
+pub(crate) fn is_input(parts: &Parts, tensor: u32) -> bool
     ensures { result ≡ is_input (plain parts.now) tensor }
 {
     match parts.tensors.get(tensor as usize) {
@@ -76,8 +76,8 @@ fn is_input(parts: &Parts, tensor: u32) -> bool
     }
 }
 
-// Marks of the inputs.
-fn inputs_marked(alloc: Global, parts: &Parts) -> Result<Vec<bool>, NoMemory>
+/// Marks of the inputs.
+pub(crate) fn inputs_marked(alloc: Global, parts: &Parts) -> Result<Vec<bool>, NoMemory>
     requires { length parts.now.tensors < 2 ^ 32 }
     ensures { IfOk result (λ marks. marks.items ≡ listed (is_input (plain parts.now)) (length parts.now.tensors)) }
 {
