@@ -1,0 +1,10 @@
+pub mod Examples
+pub mod Tests
+pub mod RunLaws
+pub mod FaultLaws
+pub mod RunPush
+pub mod ScanSteps
+pub mod ScanEnds
+pub mod RawLaws
+pub mod SizeLaws
+pub mod CallerLemmas
