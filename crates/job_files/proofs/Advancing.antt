@@ -37,12 +37,14 @@ module _ (first : ℕ) (begun : Store) (files : List JobFile) (ended : ℕ) (pla
       → GoesWell first files stage after now new entries
   settled same stage after entries = let P : ℕ → Type 0 = λ g. GoesWell first files stage after g new entries in subst P (sym same)
 
-  goes_on : now ≡ given → (more : List FileCall) → new.calls ≡ old.calls ++ more → (stage : ℕ) (after : ℕ → ℕ)
+  -- no call failed
+  pub goes_on : now ≡ given → (more : List FileCall) → new.calls ≡ old.calls ++ more → (stage : ℕ) (after : ℕ → ℕ)
       → GoesWell first files stage after given new (p.entries ++ more) → Progress first begun files stage after now new
   goes_on same more calls stage after well = record
       { entries = p.entries ++ more; calls = joined more calls; well = settled same stage after (p.entries ++ more) well }
 
-  sticks : now ≡ given → (more : List FileCall) (last : FileCall) → new.calls ≡ old.calls ++ (more ++ last ∷ []) → (after : ℕ → ℕ)
+  -- the last call failed
+  pub sticks : now ≡ given → (more : List FileCall) (last : FileCall) → new.calls ≡ old.calls ++ (more ++ last ∷ []) → (after : ℕ → ℕ)
       → GoesWell first files ended after given new (p.entries ++ more)
       → (all : List JobFile) (n : ℕ) → Fails first ended all n files last → Stuck first begun all ended n after now new
   sticks same more last calls after well all n fails =

@@ -54,18 +54,17 @@ module _ (first : ℕ) (files : List JobFile) (ended : ℕ) (places : ℕ → �
       (λ n below. let t = there files n below in let lt : first + n < given = omega (arith, w.count) in stay (first + n) lt ∙ (w.ids n t.0 t.1).place)
       w.unread w.unasked
 
-  -- the next file is read
-  pub reading : ended < length files → ((k : ℕ) → k < given → k ≢ first + ended → new.place k ≡ old.place k) → (more : List FileCall)
+  -- the next file is read, and stands at this place then
+  pub reading_to : ended < length files → ((k : ℕ) → k < given → k ≢ first + ended → new.place k ≡ old.place k) → (more : List FileCall)
       → All (IsDone first (length files)) more → askings more ≡ []
-      → (stage : ℕ) → (ended ≤ stage) × (stage ≤ length files) → AreReadOut first stage (entries ++ more) → (taken : ℕ)
-      → new.place (first + ended) ≡ old.place (first + ended) + taken
-      → GoesWell first files stage (moved places ended (places ended + taken)) given new (entries ++ more)
-  reading below others more done none stage within read taken place =
-      let m = moved_is places ended (places ended + taken) in
-      let e = there files ended below in
-      onward more done none stage (moved places ended (places ended + taken)) within.1 read
-      (λ n lt. elim (n == ended) as (λ t. (n == ended) ≡ t → new.place (first + n) ≡ (if t then (places ended + taken) else places n)) [
-        | true ↦ λ q. ap (λ k. new.place (first + k)) (eqb-true n ended q) ∙ place ∙ ap (λ p. p + taken) (w.ids ended e.0 e.1).place
+      → (stage : ℕ) → (ended ≤ stage) × (stage ≤ length files) → AreReadOut first stage (entries ++ more) → (place : ℕ)
+      → new.place (first + ended) ≡ place
+      → GoesWell first files stage (moved places ended place) given new (entries ++ more)
+  reading_to below others more done none stage within read place is =
+      let m = moved_is places ended place in
+      onward more done none stage (moved places ended place) within.1 read
+      (λ n lt. elim (n == ended) as (λ t. (n == ended) ≡ t → new.place (first + n) ≡ (if t then place else places n)) [
+        | true ↦ λ q. ap (λ k. new.place (first + k)) (eqb-true n ended q) ∙ is
         | false ↦ λ q.
             let ne : n ≢ ended = λ s. let y : (n == ended) ≡ true = eq-eqb n ended s in let bad : true ≡ false = sym y ∙ q in cc in
             let t = there files n lt in
@@ -74,6 +73,16 @@ module _ (first : ℕ) (files : List JobFile) (ended : ℕ) (places : ℕ → �
       ] refl)
       (λ n lt. m.others n (λ s. absurd (omega (arith, within.0))) ∙ w.unread n (omega (arith, within.0)))
       (λ n le. m.others n (λ s. absurd (omega arith)) ∙ w.unasked n le)
+
+  -- so many bytes of the next file are read
+  pub reading : ended < length files → ((k : ℕ) → k < given → k ≢ first + ended → new.place k ≡ old.place k) → (more : List FileCall)
+      → All (IsDone first (length files)) more → askings more ≡ []
+      → (stage : ℕ) → (ended ≤ stage) × (stage ≤ length files) → AreReadOut first stage (entries ++ more) → (taken : ℕ)
+      → new.place (first + ended) ≡ old.place (first + ended) + taken
+      → GoesWell first files stage (moved places ended (places ended + taken)) given new (entries ++ more)
+  reading below others more done none stage within read taken place =
+      let e = there files ended below in
+      reading_to below others more done none stage within read (places ended + taken) (place ∙ ap (λ p. p + taken) (w.ids ended e.0 e.1).place)
 
   -- one more file is asked for, and given
   pub asking_more : KeepsPlaces given old new → (f : JobFile) (call : FileCall) → askings (call ∷ []) ≡ (f.opened, f.name, Some given) ∷ []

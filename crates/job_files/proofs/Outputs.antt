@@ -76,6 +76,34 @@ pub created_holds : (before : Holding) (given : ℕ) (old new : Store) (outputs 
 created_holds before given old new outputs name (Ok id) c h none = holds_more before old.bytes new.bytes outputs name h none c.emptied
 created_holds before given old new outputs name (Err e) c h none = tt
 
+-- what an output held
+pub was_held : (before old : Holding) (front back : List Output) (name so_far : List ℕ) → Holds before old (front ++ (name, so_far) ∷ back)
+    → old name ≡ Some so_far
+was_held before old front back name so_far h =
+    let P : Output → Type 0 = λ o. old o.0 ≡ Some o.1 in
+    All-head P (name, so_far) back (all_back P front ((name, so_far) ∷ back) h.own)
+
+-- an output holds other bytes
+module _ (before old new : Holding) (front back : List Output) (name so_far now : List ℕ) (kept : (n : List ℕ) → n ≢ name → new n ≡ old n)
+    (got : new name ≡ Some now) (h : Holds before old (front ++ (name, so_far) ∷ back)) where
+  pub held_at : Holds before new (front ++ (name, now) ∷ back)
+  held_at =
+      let P : Output → Type 0 = λ o. old o.0 ≡ Some o.1 in
+      let Q : Output → Type 0 = λ o. new o.0 ≡ Some o.1 in
+      let front_own = all_front P front ((name, so_far) ∷ back) h.own in
+      let back_own = All-tail P (name, so_far) back (all_back P front ((name, so_far) ∷ back) h.own) in
+      let front_free = apart_front front back (name, so_far) h.apart in
+      let back_free = apart_back front back (name, so_far) h.apart in
+      record {
+        apart = apart_same front back name so_far now h.apart;
+        own = All-append Q front ((name, now) ∷ back) (λ k d lt. kept _ (front_free k d lt) ∙ front_own k d lt)
+            (All-cons Q (name, now) back got (λ k d lt. kept _ (back_free k d lt) ∙ back_own k d lt));
+        others = λ n free.
+            let R : Output → Type 0 = λ o. o.0 ≢ n in
+            let other : name ≢ n = All-head R (name, now) back (all_back R front ((name, now) ∷ back) free) in
+            kept n (λ e. other (sym e)) ∙ h.others n (all_around R front back (name, now) (name, so_far) free other);
+      }
+
 -- an output gets more bytes
 module _ (before : Holding) (given : ℕ) (old new : Store) (id : ℕ) (bytes : List ℕ) (r : Result (Unit {0}) IoErr) (w : WritesWhole given old new id bytes r)
     (front back : List Output) (name so_far : List ℕ) (is : old.name id ≡ name)
@@ -86,25 +114,10 @@ module _ (before : Holding) (given : ℕ) (old new : Store) (id : ℕ) (bytes : 
   pub written_holds : PutsTo before new.bytes front name so_far back bytes r
   written_holds =
       let now : List ℕ = so_far ++ take w.count bytes in
-      let P : Output → Type 0 = λ o. old.bytes o.0 ≡ Some o.1 in
-      let Q : Output → Type 0 = λ o. new.bytes o.0 ≡ Some o.1 in
-      let rest = all_back P front ((name, so_far) ∷ back) h.own in
-      let front_own = all_front P front ((name, so_far) ∷ back) h.own in
-      let back_own = All-tail P (name, so_far) back rest in
-      let front_free = apart_front front back (name, so_far) h.apart in
-      let back_free = apart_back front back (name, so_far) h.apart in
-      let was : old.bytes name ≡ Some so_far = All-head P (name, so_far) back rest in
+      let was : old.bytes name ≡ Some so_far = was_held before old.bytes front back name so_far h in
       let got : new.bytes name ≡ Some now = ap (λ (n : List ℕ). new.bytes n) (sym is) ∙ w.own so_far (ap (λ (n : List ℕ). old.bytes n) is ∙ was) in
       record {
         now = now;
         puts = record { count = w.count; at_most = w.at_most; all = w.all; put = refl };
-        holds = record {
-          apart = apart_same front back name so_far now h.apart;
-          own = All-append Q front ((name, now) ∷ back) (λ k d lt. kept _ (front_free k d lt) ∙ front_own k d lt)
-              (All-cons Q (name, now) back got (λ k d lt. kept _ (back_free k d lt) ∙ back_own k d lt));
-          others = λ n free.
-              let R : Output → Type 0 = λ o. o.0 ≢ n in
-              let other : name ≢ n = All-head R (name, now) back (all_back R front ((name, now) ∷ back) free) in
-              kept n (λ e. other (sym e)) ∙ h.others n (all_around R front back (name, now) (name, so_far) free other);
-        };
+        holds = held_at before old.bytes new.bytes front back name so_far now kept got h;
       }

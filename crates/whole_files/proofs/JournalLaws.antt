@@ -8,28 +8,10 @@ use Rattle.soda_io.specs.declared.call.FileCall.{FileCall}
 use Rattle.soda_io.specs.declared.call.FileCall.TheVariants.{Open, Create, Read, Write}
 use Rattle.whole_files.specs.declared.reading.ReadFail.{ReadFail}
 use Rattle.whole_files.specs.declared.reading.ReadFail.TheVariants as fail
-use Rattle.whole_files.specs.Journal.{IsFailed, IsReadBy, IsWriteBy, IsGot, IsTaken, gots, NoneAfterEnd, NoneAfterFailed, EndsFailed, ReadsOf, WritesOf}
+use Rattle.whole_files.specs.Journal.{IsFailed, IsReadBy, IsWriteBy, IsGot, IsTaken, gots, NoneAfterEnd, EndsFailed, ReadsOf, WritesOf}
 use Rattle.whole_files.specs.Reading.{last_read}
 use Rattle.whole_files.specs.Writing.{last_write}
-use Rattle.whole_files.proofs.CallerLemmas.{gots-append}
-
--- a call that didn't fail
-abbrev pub NotFailed : FileCall → Type 0
-NotFailed e = IsFailed e → ⊥
-
--- what was got is no end
-abbrev pub NotEnd : Option ℕ → Type 0
-NotEnd g = g ≡ Some 0 → ⊥
-
--- behind entries that are no end
-pub none_after_end-append : (xs ys : List (Option ℕ)) → All NotEnd xs → NoneAfterEnd ys → NoneAfterEnd (xs ++ ys)
-none_after_end-append [] ys all end = end
-none_after_end-append (x ∷ xs) ys all end = (λ is. absurd (All-head NotEnd x xs all is), none_after_end-append xs ys (All-tail NotEnd x xs all) end)
-
--- behind entries that didn't fail
-pub none_after_failed-append : (xs ys : List FileCall) → All NotFailed xs → NoneAfterFailed ys → NoneAfterFailed (xs ++ ys)
-none_after_failed-append [] ys all last = last
-none_after_failed-append (x ∷ xs) ys all last = (λ is. absurd (All-head NotFailed x xs all is), none_after_failed-append xs ys (All-tail NotFailed x xs all) last)
+use Rattle.whole_files.proofs.CallerLemmas.{NotEnd, NotFailed, gots-append, none_after_end-append, none_after_failed-append, none_fails}
 
 -- a list with a failed entry last ends failed
 pub ends_failed-push : (xs : List FileCall) (e : FileCall) → IsFailed e → EndsFailed (xs ++ e ∷ [])
@@ -42,12 +24,6 @@ pub failed_of_push : (xs : List FileCall) (e : FileCall) → EndsFailed (xs ++ e
 failed_of_push [] e ends = ends
 failed_of_push (x ∷ []) e ends = ends
 failed_of_push (x ∷ y ∷ ys) e ends = failed_of_push (y ∷ ys) e ends
-
--- entries that didn't fail don't end failed
-pub none_fails : (xs : List FileCall) → All NotFailed xs → EndsFailed xs → ⊥
-none_fails [] all ends = ends
-none_fails (x ∷ []) all ends = All-head NotFailed x [] all ends
-none_fails (x ∷ y ∷ ys) all ends = none_fails (y ∷ ys) (All-tail NotFailed x (y ∷ ys) all) ends
 
 -- reads that got some bytes
 got_own : (id : ℕ) (e : FileCall) → IsGot id e → IsReadBy id e

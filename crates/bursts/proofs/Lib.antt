@@ -1,0 +1,8 @@
+pub mod OneByOne
+pub mod Filled
+pub mod TextSteps
+pub mod RawSteps
+pub mod Blocked
+pub mod FailedLast
+pub mod WritesBehind
+pub mod WriterSteps

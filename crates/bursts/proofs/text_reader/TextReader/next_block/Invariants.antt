@@ -1,0 +1,20 @@
+use Rattle.std.proofs.Common.{◌≡◌, ◌<◌, ◌+◌, ◌++◌, ℕ, List, ℤ, All, length, take, true}
+use Rattle.int_types.specs.Ranges.{InRange}
+use Rattle.soda_io.specs.Store.{content}
+use Rattle.array_bytes.specs.Machine.Scans.{KeepsKind}
+use Rattle.bursts.specs.Blocks.{IsWanted, ReadsOn}
+use Rattle.bursts.specs.Machine.Sources.{TextAt, text_kind}
+use Rattle.bursts.proofs.text_reader.TextReader.next_block.Given as goal
+
+abbrev pub invariant-loop-place : goal.invariant-loop-place
+invariant-loop-place g l = record {
+  given : g.F.Files.given l.files ≡ g.F.Files.given l.initial.files;
+  faults : g.F.Files.faults l.files ≡ g.F.Files.faults l.initial.files;
+  still : g.F.Files.tells → (g.F.Files.store l.files).opened l.id ≡ true;
+  kind : KeepsKind l.initial.self.scan l.self.scan;
+  number : l.self.scan.number ≡ l.initial.self.scan.number + l.place-index;
+  range : All (λ v. InRange l.initial.self.scan.ty v) (take l.place-index l.out);
+  at : g.F.Files.tells → (cells : List ℤ) → TextAt l.initial.self (content (g.F.Files.store l.initial.files) l.id) ((g.F.Files.store l.initial.files).place l.id) cells → TextAt l.self (content (g.F.Files.store l.initial.files) l.id) ((g.F.Files.store l.files).place l.id) (cells ++ take l.place-index l.out);
+  reads : g.F.Files.tells → (cells : List ℤ) → TextAt l.initial.self (content (g.F.Files.store l.initial.files) l.id) ((g.F.Files.store l.initial.files).place l.id) cells
+      → ReadsOn (g.F.Files.given l.initial.files) (g.F.Files.store l.initial.files) (g.F.Files.store l.files) l.id l.initial.self.feed.ended l.self.feed.ended ⊥ (IsWanted (text_kind l.initial.self l.id) (content (g.F.Files.store l.initial.files) l.id) (length cells + length l.initial.out));
+}

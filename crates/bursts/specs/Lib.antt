@@ -1,0 +1,4 @@
+pub mod Blocks
+pub mod Readers
+pub mod Writers
+pub mod Machine

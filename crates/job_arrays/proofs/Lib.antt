@@ -1,0 +1,4 @@
+pub mod CallerLemmas
+pub mod InARow
+pub mod OneFileRead
+pub mod OneFileWritten

@@ -1,0 +1,2 @@
+-- What describes the code, and no public clause.
+pub mod OneFile
