@@ -1,3 +1,3 @@
-mod arrays;
 mod jobs;
 mod narrow;
+mod pairs;

@@ -1,3 +1,4 @@
 mod fit;
 mod large;
+mod params;
 mod rows;

@@ -8,13 +8,12 @@ use Rattle.soda_ir.specs.declared.program.Border.{Border}
 use Rattle.soda_ir.specs.declared.program.Border.TheVariants.{Ignore, Preserve}
 use Rattle.soda_ir.specs.declared.program.Role.TheVariants.{Input, Local, Output}
 use Rattle.soda_eval.specs.Arrays.{cell, in_region, whole}
-use Rattle.soda_eval.specs.Examples.{at, three, sum3}
+use Rattle.soda_eval.specs.Examples.{at, input_of, output_of, sum3, three, uint8}
 use Rattle.soda_ir.specs.Formula.{Formula, number, read, param, binary, cast}
 use Rattle.soda_ir.specs.Points.{listed}
 use Rattle.soda_eval.specs.Points.{point}
 use Rattle.soda_ir.specs.Program.{PlainProgram, PlainTensor, PlainParam}
 use Rattle.soda_eval.specs.Runs.{defined_arrays, stencil_of}
-use Rattle.soda_eval.specs.Sums.{uint8, input_of, output_of}
 
 abbrev naturals : List ℕ → List ℤ
 naturals [] = []

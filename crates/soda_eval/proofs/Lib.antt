@@ -1,6 +1,5 @@
 pub mod CallerLemmas
 pub mod Starts
-pub mod SumTest
 pub mod Steps
 pub mod Values
 pub mod Touched

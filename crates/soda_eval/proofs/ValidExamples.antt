@@ -4,10 +4,9 @@ use Rattle.soda_words.specs.declared.operators.UnOp.TheVariants.{Abs, Minus}
 use Rattle.soda_words.specs.declared.operators.BinOp.TheVariants.{Add, Sub, Mul, Max}
 use Rattle.soda_ir.specs.declared.program.Border.TheVariants.{Ignore, Preserve}
 use Rattle.soda_ir.specs.Counts.{can_be_placed, is_reached, is_wanted, live_count, read_count}
-use Rattle.soda_eval.specs.Examples.{at, sum3, three}
+use Rattle.soda_eval.specs.Examples.{at, input_of, output_of, sum3, three, uint8}
 use Rattle.soda_ir.specs.Formula.{number, read, param, unary, binary, choice, cast}
 use Rattle.soda_ir.specs.Program.{PlainProgram, PlainParam}
-use Rattle.soda_eval.specs.Sums.{uint8, input_of, output_of}
 use Rattle.soda_ir.specs.Valid.{IsSound, IsValid, are_free_names, has_good_uses}
 use Rattle.soda_ir.specs.Written.{most_open, token_count}
 use Rattle.soda_eval.proofs.Examples.{average, of_tensors, over_bytes, pairs, products}

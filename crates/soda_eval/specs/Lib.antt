@@ -2,5 +2,4 @@ pub mod Values
 pub mod Points
 pub mod Arrays
 pub mod Runs
-pub mod Sums
 pub mod Examples

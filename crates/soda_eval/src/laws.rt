@@ -58,8 +58,8 @@ pub fn programs_have_meaning()
         × (value x q ≡ cell (stencil_of p rows) g params (length p.tensors) x q) }
 {}
 
-/// Each defined cell is in the range of its tensor's type, where the cells of the inputs are; so are the inputs of every
-/// iteration and the output arrays, over input arrays in range.
+/// Each defined cell is in the range of its tensor's type, where the cells of the inputs are; so are the inputs of
+/// every iteration and the output arrays, over input arrays in range.
 pub fn cells_are_in_range()
     ensures cell { (p : PlainProgram) (rows : ℕ) (g : Given) (params : List ℤ) → IsSound p
         → ((j : ℕ) (q : List ℤ) → is_input p j ≡ true → InRange (type_at (stencil_of p rows) j) (g.cell j q))

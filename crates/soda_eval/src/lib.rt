@@ -3,7 +3,6 @@
 
 mod laws;
 mod scope;
-mod sums;
 mod value;
 
 pub use laws::{
@@ -12,5 +11,4 @@ pub use laws::{
 };
 /// Want of memory.
 pub use std::alloc::AllocError as NoMemory;
-pub use sums::is_sum_program;
 pub use value::{Cells, eval, type_of};

@@ -1,12 +1,10 @@
 -- What ends a run that asked for all files of its job.
-use Rattle.std.proofs.Common.{◌≡◌, ◌≢◌, ◌≤◌, ℕ, ◌+◌, min, List, [], ◌∷◌, ◌++◌, length, map, Some, refl, sym, ap, ◌∙◌, arith, append-nil}
+use Rattle.std.proofs.Common.{◌≡◌, ◌≤◌, ℕ, ◌+◌, List, [], ◌++◌, length, map, Some, ℤ, refl, sym, ap, ◌∙◌, arith, append-nil}
 use Rattle.std.proofs.Math.Seq.{take-length}
 use Rattle.soda_io.specs.declared.call.FileCall.{FileCall}
 use Rattle.soda_io.specs.declared.role.FileRole.{FileRole}
 use Rattle.soda_io.specs.Store.{Store}
-use Rattle.soda_words.specs.Limits.{most_text}
 use Rattle.soda_ir.specs.Program.{PlainProgram}
-use Rattle.soda_parse.specs.declared.refusal.Refusal.TheVariants.{TextTooLong}
 use Rattle.job_files.specs.Contents.{Holds}
 use Rattle.job_files.specs.Files.{HasRole, created_of}
 use Rattle.job_files.specs.Progress.{Progress, Stuck, created}
@@ -15,19 +13,19 @@ use Rattle.command_words.specs.Orders.{Asked}
 use Rattle.sodac_cli.specs.declared.status.Status.{Status}
 use Rattle.sodac_cli.specs.declared.status.Status.TheVariants as is
 use Rattle.sodac_cli.specs.Correct.{Runs}
-use Rattle.sodac_cli.specs.Due.{DueOver, MayAsk, accepted, asks_arrays}
-use Rattle.sodac_cli.specs.Endings.{due, ending_of, opened_count}
+use Rattle.sodac_cli.specs.Due.{DueOver, MayAsk, accepted, asks_arrays, good_params}
+use Rattle.sodac_cli.specs.Endings.{ReadsFew, due, ending_of, opened_count}
 use Rattle.sodac_cli.specs.Machine.Steps.{IsJudged}
 use Rattle.sodac_cli.specs.Outputs.{AreOutputs, Delivers, Leaves}
-use Rattle.sodac_cli.specs.Work.{files_of, output_names}
-use Rattle.sodac_cli.proofs.Begun.{due_over, runs_due, runs_fault, runs_memory}
+use Rattle.sodac_cli.specs.Work.{HasParams, files_of, output_names, text_count}
+use Rattle.sodac_cli.proofs.Begun.{due_with, runs_due, runs_fault, runs_memory}
 use Rattle.sodac_cli.proofs.Numbered.{created_files}
 
 -- its outputs hold these bytes
-module _ (first : ℕ) (begun : Store) (a : Asked) (p : PlainProgram) (judged : IsJudged begun.bytes a p) (given : ℕ) (now : Store)
-    (outputs : List (List ℕ × List ℕ)) (names : map (λ o. o.0) outputs ≡ output_names a p) (holds : Holds begun.bytes now.bytes outputs)
-    (are : AreOutputs begun.bytes (Some a) outputs)
-    (ended : ℕ) (places : ℕ → ℕ) (few : places 0 ≤ most_text + 1) where
+module _ (first : ℕ) (begun : Store) (a : Asked) (p : PlainProgram) (values : List ℤ) (judged : IsJudged begun.bytes a p)
+    (params : HasParams begun.bytes a p values) (given : ℕ) (now : Store) (outputs : List (List ℕ × List ℕ))
+    (names : map (λ o. o.0) outputs ≡ output_names a p) (holds : Holds begun.bytes now.bytes outputs) (are : AreOutputs begun.bytes (Some a) outputs)
+    (ended : ℕ) (places : ℕ → ℕ) (few : ReadsFew a places) where
   leaves_all : ((entries : List FileCall) → now.calls ≡ begun.calls ++ entries → created entries ≡ created_of (files_of a p)) → Leaves begun now (Some a)
   leaves_all made = record {
     outputs = outputs;
@@ -37,7 +35,7 @@ module _ (first : ℕ) (begun : Store) (a : Asked) (p : PlainProgram) (judged : 
   }
 
   may : MayAsk begun.bytes a (files_of a p)
-  may = asks_arrays p judged.program judged.pass.none [] (sym (append-nil (files_of a p)))
+  may = asks_arrays judged.arrays p judged.program judged.pass.none values params [] (sym (append-nil (files_of a p)))
 
   pub all_fault : (role : FileRole) (number : ℕ) → HasRole (files_of a p) number role → given ≡ first + length (files_of a p)
       → Stuck first begun (files_of a p) ended number places given now → Runs first begun (Some a) given now (is.FileFault role)
@@ -54,9 +52,17 @@ module _ (first : ℕ) (begun : Store) (a : Asked) (p : PlainProgram) (judged : 
     pub all_memory : Runs first begun (Some a) given now is.Memory
     all_memory = runs_memory first begun a given now judged.built leaves (files_of a p) may ended places few progress
 
-    pub all_due : (status : Status) → ending_of status ≡ due → 1 ≤ ended → (status ≡ is.Ok → ended ≡ opened_count (files_of a p))
+    pub all_due : (status : Status) → ending_of status ≡ due → text_count a ≤ ended → (status ≡ is.Ok → ended ≡ opened_count (files_of a p))
         → DueOver begun.bytes a p status → (status ≡ is.Ok → Delivers begun.bytes now.bytes (Some a)) → Runs first begun (Some a) given now status
     all_due status ending some all over delivered =
         runs_due first begun a given now judged.built leaves (files_of a p) status ending
-        (accepted p judged.program (due_over begun.bytes a p (files_of a p) status judged.pass.none refl over))
-        (record { ended = ended; places = places; progress = progress; few = few; all = all; some = λ ne. omega arith }) delivered
+        (accepted p judged.program (due_with begun.bytes a p (files_of a p) status judged.pass.none judged.arrays (good_params values params refl over)))
+        (record {
+          ended = ended;
+          places = places;
+          progress = progress;
+          few = few;
+          all = all;
+          program = λ ne. omega (arith, some);
+          texts = λ ne also. omega (arith, some);
+        }) delivered

@@ -1,5 +1,5 @@
 -- No output of a job is named like another of its files.
-use Rattle.std.proofs.Common.{◌≡◌, ◌≢◌, ℕ, true, false, not, ◌&&◌, List, [], ◌∷◌, ◌++◌, map, get_or, Contains, sym, ◌∙◌}
+use Rattle.std.proofs.Common.{◌≡◌, ◌≢◌, ℕ, true, false, not, List, [], ◌∷◌, ◌++◌, map, get_or, Contains, sym, ◌∙◌}
 use Rattle.std.proofs.lemmas.Bool.{and_parts, not-true}
 use Rattle.std.proofs.lemmas.List.Elements.{All-cons, All-nil, Contains-append_left, Contains-append_right, Contains-push}
 use Rattle.std.proofs.lemmas.List.Folds.{list_any_at}
@@ -11,7 +11,7 @@ use Rattle.job_files.specs.Contents.{AreApart, IsNoneOf, emptied}
 use Rattle.command_words.specs.Orders.{Asked}
 use Rattle.sodac_cli.specs.Due.{are_apart}
 use Rattle.sodac_cli.specs.Machine.Steps.{LetsPass}
-use Rattle.sodac_cli.specs.Work.{input_names, output_names, program_of}
+use Rattle.sodac_cli.specs.Work.{input_names, output_names, text_names}
 
 -- a name that isn't found among names is none of them
 not_among : (names : List (List ℕ)) (name : List ℕ) → list_any (bytes_eq name) names ≡ false → (x : List ℕ) → Contains names x → name ≢ x
@@ -42,9 +42,9 @@ all_apart before (name ∷ names) apart =
 
 module _ (a : Asked) (p : PlainProgram) (pass : LetsPass a p) where
   pub outputs_apart : AreApart (map emptied (output_names a p))
-  outputs_apart = all_apart (program_of a ∷ input_names a p) (output_names a p) pass.apart
+  outputs_apart = all_apart (text_names a ++ input_names a p) (output_names a p) pass.apart
 
   -- no output is named like an input
   pub no_output : (x : List ℕ) → Contains (input_names a p) x → IsNoneOf (map emptied (output_names a p)) x
-  no_output x has = none_of (program_of a ∷ input_names a p) (output_names a p) pass.apart x
-      (Contains-append_right (program_of a ∷ []) (input_names a p) x has)
+  no_output x has = none_of (text_names a ++ input_names a p) (output_names a p) pass.apart x
+      (Contains-append_right (text_names a) (input_names a p) x has)

@@ -1,10 +1,9 @@
 -- What ends the run of a job that is built.
-use Rattle.std.proofs.Common.{◌≡◌, ◌≤◌, ℕ, zero, suc, ◌+◌, Bool, true, false, List, [], ◌∷◌, ◌++◌, length, take, Option, Some, None, if◌then◌else◌, refl, sym, subst, ◌∙◌, inl}
+use Rattle.std.proofs.Common.{◌≡◌, ℕ, zero, suc, Bool, true, false, List, [], ◌∷◌, ◌++◌, length, take, Option, Some, None, if◌then◌else◌, refl, sym, subst, ◌∙◌, inl}
 use Rattle.soda_io.specs.declared.call.FileCall.{FileCall}
 use Rattle.soda_io.specs.declared.role.FileRole.{FileRole}
 use Rattle.soda_io.specs.Store.{KeepsBytes, Store}
 use Rattle.soda_ir.specs.Program.{PlainProgram}
-use Rattle.soda_words.specs.Limits.{most_text}
 use Rattle.job_files.specs.Contents.{Holding}
 use Rattle.job_files.specs.Files.{HasRole, JobFile, created_of}
 use Rattle.job_files.specs.Progress.{Progress, Stuck, created}
@@ -13,10 +12,10 @@ use Rattle.command_words.specs.Orders.{Asked}
 use Rattle.sodac_cli.specs.declared.status.Status.{Status}
 use Rattle.sodac_cli.specs.declared.status.Status.TheVariants as is
 use Rattle.sodac_cli.specs.Correct.{Runs}
-use Rattle.sodac_cli.specs.Due.{DueBehind, DueFor, DueIf, DueOf, DueOver, MayAsk, MayAskFor, MayAskIf, refusal_of}
-use Rattle.sodac_cli.specs.Endings.{AsksAll, AsksBy, Ending, due, ending_of}
+use Rattle.sodac_cli.specs.Due.{DueAfter, DueBehind, DueBy, DueFor, DueIf, DueOf, DueWith, MayAsk, MayAskFor, MayAskIf, refusal_of}
+use Rattle.sodac_cli.specs.Endings.{AsksAll, AsksBy, Ending, ReadsFew, due, ending_of}
 use Rattle.sodac_cli.specs.Outputs.{Delivers, Leaves}
-use Rattle.sodac_cli.specs.Work.{files_of, is_built, program_file}
+use Rattle.sodac_cli.specs.Work.{is_built, program_file, writes_arrays}
 
 -- what is stated by whether a job is built, at one that is
 module _ (h : Holding) (a : Asked) (built : is_built a ≡ true) where
@@ -26,19 +25,22 @@ module _ (h : Holding) (a : Asked) (built : is_built a ≡ true) where
   pub may_built : (made : List JobFile) → MayAsk h a made → MayAskFor h (Some a) made
   may_built made m = let P : Bool → Type 0 = λ b. MayAskIf b h a made in subst P (sym built) m
 
--- what is due of an accepted program, by whether a step refuses it
+-- what is due of an accepted program, by whether a step refuses it and whether the mode writes arrays
 module _ (h : Holding) (a : Asked) (p : PlainProgram) (files : List JobFile) (status : Status) where
-  abbrev Behind : Option Status → Type 0
-  Behind refusal = elim refusal [
-    | None ↦ (files ≡ files_of a p) × DueOver h a p status
-    | Some own ↦ (files ≡ program_file a ∷ []) × (status ≡ own)
-  ]
+  behind : refusal_of a p ≡ None → (writes : Bool) → writes_arrays a.mode ≡ writes → DueBy writes h a p files status → DueBehind h a p files status
+  behind none writes same d =
+      let P : Option Status → Type 0 = λ r. DueAfter r h a p files status in
+      let Q : Bool → Type 0 = λ b. DueBy b h a p files status in
+      subst P (sym none) (subst Q (sym same) d)
 
-  pub due_over : refusal_of a p ≡ None → files ≡ files_of a p → DueOver h a p status → DueBehind h a p files status
-  due_over none all over = let P : Option Status → Type 0 = λ r. Behind r in subst P (sym none) (all, over)
+  pub due_with : refusal_of a p ≡ None → writes_arrays a.mode ≡ true → DueWith h a p files status → DueBehind h a p files status
+  due_with none writes d = behind none true writes d
+
+  pub due_done : refusal_of a p ≡ None → writes_arrays a.mode ≡ false → files ≡ program_file a ∷ [] → status ≡ is.Ok → DueBehind h a p files status
+  due_done none writes all ok = behind none false writes (all, ok)
 
   pub due_refused : refusal_of a p ≡ Some status → files ≡ program_file a ∷ [] → DueBehind h a p files status
-  due_refused some all = let P : Option Status → Type 0 = λ r. Behind r in subst P (sym some) (all, refl)
+  due_refused some all = let P : Option Status → Type 0 = λ r. DueAfter r h a p files status in subst P (sym some) (all, refl)
 
 -- where no file of a list is created, none of its first is
 pub created_none : (files : List JobFile) → created_of files ≡ [] → (count : ℕ) → created_of (take count files) ≡ []
@@ -84,7 +86,7 @@ module _ (first : ℕ) (begun : Store) (a : Asked) (given : ℕ) (now : Store) (
         delivered = delivered;
       }
 
-  module _ (made : List JobFile) (may : MayAsk begun.bytes a made) (ended : ℕ) (places : ℕ → ℕ) (few : places 0 ≤ most_text + 1) where
+  module _ (made : List JobFile) (may : MayAsk begun.bytes a made) (ended : ℕ) (places : ℕ → ℕ) (few : ReadsFew a places) where
     -- for want of memory
     pub runs_memory : Progress first begun made ended places given now → Runs first begun (Some a) given now is.Memory
     runs_memory p = record {

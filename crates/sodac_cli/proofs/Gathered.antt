@@ -1,150 +1,184 @@
--- What ends a run that reads its input, and how it goes on.
-use Rattle.std.proofs.Common.{◌≡◌, ◌<◌, ◌≤◌, ℕ, ◌+◌, ◌*◌, List, [], ◌∷◌, ◌++◌, length, map, unwrap_or, Option, Some, Result, Ok, Err, All, Contains, Global, ℤ, refl, sym, ap, subst, ◌∙◌, inl, inr, arith}
-use Rattle.std.proofs.lemmas.List.Elements.{All-head, Contains-get_or}
-use Rattle.std.proofs.lemmas.Option.{same_Some}
-use Rattle.std.specs.declared.vec.Vec.{Vec}
+-- What ends a run that reads its inputs, and how it goes on.
+use Rattle.std.proofs.Common.{◌≡◌, ◌<◌, ℕ, ◌+◌, true, List, [], ◌∷◌, ◌++◌, length, map, take, get_or, slice_index_or, unwrap_or, Option, Some, Result, Ok, Err, Contains, ℤ, refl, sym, ap, subst, ◌∙◌, inl, inr, arith, add-one, take_all}
+use Rattle.std.proofs.lemmas.List.Elements.{Contains-get_or}
 use Rattle.soda_io.specs.declared.role.FileRole.TheVariants.{Input}
 use Rattle.soda_io.specs.Store.{KeepsBytes, Store, left}
-use Rattle.soda_words.specs.Limits.{most_text}
-use Rattle.whole_files.specs.declared.reading.ReadFail.{ReadFail}
-use Rattle.whole_files.specs.declared.reading.ReadFail.TheVariants as read
-use Rattle.soda_ir.specs.Program.{PlainProgram}
+use Rattle.soda_words.specs.IntType.{IntType, int32}
+use Rattle.soda_ir.specs.Program.{PlainProgram, input_types}
 use Rattle.soda_eval.specs.Runs.{cells_at}
-use Rattle.job_parts.specs.Cells.{AreCells}
-use Rattle.job_files.specs.Contents.{Holding, Holds, IsThere, emptied}
+use Rattle.array_bytes.specs.declared.fault.CellFault.{CellFault}
+use Rattle.array_bytes.specs.declared.fault.CellFault.TheVariants as cell
+use Rattle.job_arrays.specs.Arrays.{IsFaulty, IsGood, IsOfBytes}
+use Rattle.job_arrays.specs.Steps.{ReadsArray, ReadsPart}
+use Rattle.job_arrays.specs.declared.layout.Layout.{Layout}
+use Rattle.job_files.specs.Contents.{Holds, IsThere, emptied}
 use Rattle.job_files.specs.Progress.{Progress}
-use Rattle.job_files.specs.Steps.{Moves, ReadsNext}
-use Rattle.job_files.proofs.CallerLemmas.{holds_kept, whole_left}
+use Rattle.job_files.specs.Steps.{Moves}
+use Rattle.job_files.proofs.CallerLemmas.{holds_kept, id_opened, next_unread, whole_left}
 use Rattle.command_words.specs.Orders.{Asked}
+use Rattle.sodac_cli.specs.declared.status.ArrayFault.TheVariants as of
 use Rattle.sodac_cli.specs.declared.status.Status.TheVariants as is
 use Rattle.sodac_cli.specs.Correct.{Runs}
-use Rattle.sodac_cli.specs.Due.{odd}
-use Rattle.sodac_cli.specs.Machine.Steps.{IsGathered, IsReady}
+use Rattle.sodac_cli.specs.Due.{faulty}
+use Rattle.sodac_cli.specs.Endings.{ReadsFew}
+use Rattle.sodac_cli.specs.Machine.Steps.{IsGathering, IsWriting, ReadsInput, layout_of}
+use Rattle.sodac_cli.specs.Machine.Text.{unread_input}
 use Rattle.sodac_cli.specs.Outputs.{AreOutputs}
-use Rattle.sodac_cli.specs.Work.{HasInputs, HoldCells, files_of, input_count, input_names, output_names, rows_of}
+use Rattle.sodac_cli.specs.Work.{HoldCells, HoldsCells, HoldsFault, files_of, form_of, input_count, input_names, output_names, output_texts, rows_of, text_count}
 use Rattle.sodac_cli.proofs.AllAsked.{all_due, all_fault, all_memory}
 use Rattle.sodac_cli.proofs.Apart.{no_output}
-use Rattle.sodac_cli.proofs.Counted.{has_input, input, input_file, input_there, inputs_are, one_input, rows_are, three_files}
+use Rattle.sodac_cli.proofs.ArrayLaws.{fault_behind, hold_more}
 use Rattle.sodac_cli.proofs.Emptied.{all_empty, emptied_names}
-use Rattle.sodac_cli.proofs.Evaluated.{cells_short}
+use Rattle.sodac_cli.proofs.Few.{few_behind}
+use Rattle.sodac_cli.proofs.Filled.{filled_none}
+use Rattle.sodac_cli.proofs.Numbered.{file_of_input, files_length, input_file, input_names_length, role_at}
 
--- a name that holds no cells
-no_cells : (h : Holding) (n : ℕ) (name bytes : List ℕ) → h name ≡ Some bytes → ((cells : List ℤ) → AreCells n bytes cells → ⊥)
-    → (arrays : List (List ℤ)) → HoldCells h n (name ∷ []) arrays → ⊥
-no_cells h n name bytes there none [] has = has
-no_cells h n name bytes there none (cells ∷ arrays) has =
-    let P : List ℕ → Type 0 = λ bs. AreCells n bs cells in
-    none cells (subst P (same_Some has.0.bytes bytes (sym has.0.there ∙ there)) has.0.good)
+-- the outputs are empty, and some of the inputs were read
+module _ (first : ℕ) (begun : Store) (a : Asked) (p : PlainProgram) (values : List ℤ) (arrays : List (List ℤ)) (count given : ℕ) (now : Store)
+    (g : IsGathering first begun a p given now values arrays count) where
+  abbrev outputs : List (List ℕ × List ℕ)
+  outputs = map emptied (output_names a p)
 
-module _ (first : ℕ) (begun : Store) (a : Asked) (p : PlainProgram) (before : ℕ) (old : Store) (r : IsReady first begun a p before old) where
+  pub are_empty : AreOutputs begun.bytes (Some a) outputs
+  are_empty = inr (record { plain = p; program = g.judged.program; prefixes = inl (all_empty (output_names a p)) })
+
+  pub gathering_memory : Runs first begun (Some a) given now is.Memory
+  gathering_memory =
+      all_memory first begun a p values g.judged g.params given now outputs (emptied_names (output_names a p)) g.holds are_empty (text_count a + count)
+      g.asked.places g.asked.few g.asked.progress
+
+  -- all of them were
+  pub all_gathered : count ≡ input_count p → IsWriting first begun a p given now values arrays 0
+  all_gathered all =
+      let P : ℕ → Type 0 = λ n. Progress first begun (files_of a p) (text_count a + n) g.asked.places given now in
+      let Q : List (List ℕ) → Type 0 = λ names. HoldCells begun.bytes (form_of a) (cells_at p (rows_of a)) (input_types p.tensors) names arrays in
+      let R : List (List ℕ × List ℕ) → Type 0 = λ os. Holds begun.bytes now.bytes os in
+      record {
+        judged = g.judged;
+        params = g.params;
+        inputs = subst Q (take_all count (input_names a p) (omega (arith, input_names_length a p g.judged.pass.count))) g.inputs;
+        asked = record { places = g.asked.places; few = g.asked.few; progress = subst P all g.asked.progress };
+        holds = subst R (sym (filled_none (output_names a p) (output_texts a p values arrays))) g.holds;
+      }
+
+-- an input is to be read
+module _ (first : ℕ) (begun : Store) (a : Asked) (p : PlainProgram) (values : List ℤ) (arrays : List (List ℤ)) (number id : ℕ) (ty : IntType) (layout : Layout)
+    (before : ℕ) (old : Store) (r : ReadsInput first begun a p before old values arrays number id ty layout) where
+  abbrev g : IsGathering first begun a p before old values arrays number
+  g = r.gathering
+
   abbrev name : List ℕ
-  name = input a p r.judged.pass
+  name = get_or (input_names a p) number []
 
-  -- what the input held at first
+  within : number < length (input_names a p)
+  within = omega (arith, r.within, input_names_length a p g.judged.pass.count)
+
+  -- what it held at first
   held : IsThere begun.bytes name
-  held =
-      let P : List (List ℕ) → Type 0 = λ ns. All (IsThere begun.bytes) ns in
-      All-head (IsThere begun.bytes) name [] (subst P (inputs_are a p r.judged.pass) r.there)
+  held = g.there number [] within
+
+  pub input_opened : old.opened id ≡ true
+  input_opened =
+      ap (λ (k : ℕ). old.opened k) r.id_is
+      ∙ id_opened first begun (files_of a p) (text_count a + number) g.asked.places before old g.asked.progress (text_count a + number)
+      (input_file number name) (file_of_input a p g.judged.pass.count number r.within)
+
+  pub input_unread : old.place id ≡ 0
+  input_unread =
+      ap (λ (k : ℕ). old.place k) r.id_is
+      ∙ (g.asked.progress.well.ids (text_count a + number) (input_file number name) (file_of_input a p g.judged.pass.count number r.within)).place
+      ∙ g.unread
 
   -- it is left to be read
-  input_left : (id : ℕ) → id ≡ first + 1 → left old id ≡ held.0
-  input_left id at =
-      let P : List (List ℕ) → Type 0 = λ ns. Contains ns name in
-      let there : Contains (input_names a p) name = subst P (sym (inputs_are a p r.judged.pass)) (Contains-get_or (name ∷ []) 0 [] (omega arith)) in
-      let kept : old.bytes name ≡ Some held.0 = r.holds.others name (no_output a p r.judged.pass name there) ∙ held.1 in
-      ap (left old) at
-      ∙ whole_left first begun (files_of a p) 1 r.asked.places before old r.asked.progress 1 (input_file name) (input_there a p r.judged.pass) r.unread
+  input_left : left old id ≡ held.0
+  input_left =
+      let there : Contains (input_names a p) name = Contains-get_or (input_names a p) number [] within in
+      let kept : old.bytes name ≡ Some held.0 = g.holds.others name (no_output a p g.judged.pass name there) ∙ held.1 in
+      ap (left old) r.id_is
+      ∙ whole_left first begun (files_of a p) (text_count a + number) g.asked.places before old g.asked.progress (text_count a + number)
+      (input_file number name) (file_of_input a p g.judged.pass.count number r.within) g.unread
       ∙ ap (λ (bytes : Option (List ℕ)). unwrap_or bytes []) kept
 
-  pub input_next : 1 < length (files_of a p)
-  input_next = omega (arith, three_files a p r.judged.pass)
+  input_there : begun.bytes name ≡ Some (left old id)
+  input_there = held.1 ∙ ap (λ (bs : List ℕ). Some bs) (sym input_left)
 
-  -- bytes that were read of it are cells, or they aren't
-  module _ (rows : ℕ) (same : rows ≡ rows_of a) (bytes : List ℕ) (whole : bytes ≡ held.0) where
-    count : cells_at p (rows_of a) ≡ rows
-    count = rows_are p r.judged.pass.sum (rows_of a) ∙ sym same
-
-    there : begun.bytes name ≡ Some bytes
-    there = held.1 ∙ ap (λ (bs : List ℕ). Some bs) (sym whole)
-
-    has_cells : (cells : List ℤ) → AreCells rows bytes cells → HasInputs begun.bytes a p (cells ∷ [])
-    has_cells cells good =
-        let P : List (List ℕ) → Type 0 = λ ns. HoldCells begun.bytes (cells_at p (rows_of a)) ns (cells ∷ []) in
-        let Q : ℕ → Type 0 = λ n. AreCells n bytes cells in
-        subst P (sym (inputs_are a p r.judged.pass)) (record { bytes = bytes; there = there; good = subst Q (sym count) good }, tt)
-
-    has_none : ((cells : List ℤ) → AreCells rows bytes cells → ⊥) → (arrays : List (List ℤ)) → HasInputs begun.bytes a p arrays → ⊥
-    has_none none arrays has =
-        let P : List (List ℕ) → Type 0 = λ ns. HoldCells begun.bytes (cells_at p (rows_of a)) ns arrays in
-        let Q : ℕ → Type 0 = λ n. HoldCells begun.bytes n (name ∷ []) arrays in
-        no_cells begun.bytes rows name bytes there none arrays (subst Q count (subst P (inputs_are a p r.judged.pass) has))
+  pub input_next : text_count a + number < length (files_of a p)
+  input_next = omega (arith, r.within, files_length a p g.judged.pass.count)
 
   -- what the call that reads it did
-  module _ (given : ℕ) (now : Store) (ids : given ≡ before) (kept : KeepsBytes old now) (most : ℕ) where
-    abbrev pub Reading : Result (Vec ℕ Global) ReadFail → Type 0
-    Reading x = ReadsNext first begun (files_of a p) 1 r.asked.places given now most x
+  module _ (given : ℕ) (now : Store) (ids : given ≡ before) (kept : KeepsBytes old now) where
+    abbrev pub Reading : Result (List ℤ) CellFault → Type 0
+    Reading x = ReadsArray first begun (files_of a p) (text_count a + number) g.asked.places given now x
 
-    abbrev outputs : List (List ℕ × List ℕ)
-    outputs = map emptied (output_names a p)
+    abbrev empty : List (List ℕ × List ℕ)
+    empty = map emptied (output_names a p)
 
-    holds : Holds begun.bytes now.bytes outputs
-    holds = holds_kept begun.bytes old.bytes now.bytes outputs kept r.holds
+    holds : Holds begun.bytes now.bytes empty
+    holds = holds_kept begun.bytes old.bytes now.bytes empty kept g.holds
 
-    are : AreOutputs begun.bytes (Some a) outputs
-    are = inr (record { plain = p; program = r.judged.program; prefixes = inl (all_empty (output_names a p)) })
+    few : (after : ℕ → ℕ) (place : ℕ) → Moves g.asked.places after (text_count a + number) place → ReadsFew a after
+    few after place m = few_behind a g.asked.places after g.asked.few (text_count a + number) place (omega arith) m
 
-    few : (after : ℕ → ℕ) (place : ℕ) → Moves r.asked.places after 1 place → after 0 ≤ most_text + 1
-    few after place m = omega (arith, m.others 0 (λ e. absurd (omega arith)), r.asked.few)
+    input_fault : Reading (Err cell.Failed) → Runs first begun (Some a) given now (is.FileFault (Input number))
+    input_fault x =
+        all_fault first begun a p values g.judged g.params given now empty (emptied_names (output_names a p)) holds
+        (are_empty first begun a p values arrays number before old g) (text_count a + number) x.after (few x.after x.place x.moves)
+        (Input number) (text_count a + number)
+        (role_at (files_of a p) (text_count a + number) (input_file number name) (file_of_input a p g.judged.pass.count number r.within))
+        (ids ∙ g.asked.progress.well.count) x.stuck
 
-    memory : (ended : ℕ) (after : ℕ → ℕ) → after 0 ≤ most_text + 1 → Progress first begun (files_of a p) ended after given now
-        → Runs first begun (Some a) given now is.Memory
-    memory = all_memory first begun a p r.judged given now outputs (emptied_names (output_names a p)) holds are
+    input_memory : Reading (Err cell.Memory) → Runs first begun (Some a) given now is.Memory
+    input_memory x =
+        let s = x.3 in
+        all_memory first begun a p values g.judged g.params given now empty (emptied_names (output_names a p)) holds
+        (are_empty first begun a p values arrays number before old g) x.0 s.after (few s.after s.place s.moves) s.progress
 
-    unbuilt : (ended : ℕ) (after : ℕ → ℕ) → after 0 ≤ most_text + 1 → Progress first begun (files_of a p) ended after given now → 1 ≤ ended
-        → ((arrays : List (List ℤ)) → HasInputs begun.bytes a p arrays → ⊥) → Runs first begun (Some a) given now is.NotYetBuilt
-    unbuilt ended after few progress some none =
-        all_due first begun a p r.judged given now outputs (emptied_names (output_names a p)) holds are ended after few progress
-        is.NotYetBuilt refl some (λ e. absurd (cc)) (odd r.there none) (λ e. absurd (cc))
+    input_bad : (f : CellFault) → ReadsPart first begun (files_of a p) (text_count a + number) g.asked.places given now
+        → IsFaulty layout.form ty layout.cells (left old id) f → Runs first begun (Some a) given now (is.Array (of.Cell number f))
+    input_bad f x fault =
+        let s = x.3 in
+        let P : Layout → IntType → Type 0 = λ l t. IsFaulty l.form t l.cells (left old id) f in
+        let Q : Layout → Type 0 = λ l. P l ty in
+        let R : IntType → Type 0 = λ t. P (layout_of a p) t in
+        let here : HoldsFault begun.bytes (form_of a) (cells_at p (rows_of a)) (slice_index_or (input_types p.tensors) number int32) name f =
+        record { bytes = left old id; there = input_there; faulty = subst R r.type_is (subst Q r.layout_is fault) } in
+        all_due first begun a p values g.judged g.params given now empty (emptied_names (output_names a p)) holds
+        (are_empty first begun a p values arrays number before old g) x.0 s.after (few s.after s.place s.moves) s.progress
+        (is.Array (of.Cell number f)) refl (omega (arith, x.1)) (λ e. absurd (cc))
+        (faulty g.there number f (fault_behind begun.bytes (form_of a) (cells_at p (rows_of a)) (input_types p.tensors) (input_names a p) number arrays f
+        r.within within g.inputs here))
+        (λ e. absurd (cc))
 
-    pub input_fault : (e : ReadFail) → e ≡ read.Failed → Reading (Err e) → Runs first begun (Some a) given now (is.FileFault (Input 0))
-    input_fault e same x =
-        let P : ReadFail → Type 0 = λ y. Reading (Err y) in
-        let t : Reading (Err read.Failed) = subst P same x in
-        all_fault first begun a p r.judged given now outputs (emptied_names (output_names a p)) holds are 1 t.0 (few t.0 t.1 t.3)
-        (Input 0) 1 (has_input a p r.judged.pass) (ids ∙ r.asked.progress.well.count) t.4
+    -- what came in the place of its cells
+    pub input_ends : (f : CellFault) → Reading (Err f) → (IsOfBytes f → IsFaulty layout.form ty layout.cells (left old id) f)
+        → Runs first begun (Some a) given now (unread_input number f)
+    input_ends (cell.BadCell i) x fault = input_bad (cell.BadCell i) x (fault tt)
+    input_ends (cell.CellRange i) x fault = input_bad (cell.CellRange i) x (fault tt)
+    input_ends (cell.TooFew n) x fault = input_bad (cell.TooFew n) x (fault tt)
+    input_ends cell.TooMany x fault = input_bad cell.TooMany x (fault tt)
+    input_ends cell.TooLong x fault = input_bad cell.TooLong x (fault tt)
+    input_ends cell.Failed x fault = input_fault x
+    input_ends cell.Memory x fault = input_memory x
 
-    pub input_memory : (e : ReadFail) → e ≡ read.Memory → Reading (Err e) → Runs first begun (Some a) given now is.Memory
-    input_memory e same x =
-        let P : ReadFail → Type 0 = λ y. Reading (Err y) in
-        let t : Reading (Err read.Memory) = subst P same x in
-        memory 1 t.0 (few t.0 t.1 t.3) t.4
-
-    pub cells_memory : (v : Vec ℕ Global) → Reading (Ok v) → Runs first begun (Some a) given now is.Memory
-    cells_memory v x = memory 2 x.0 (few x.0 (r.asked.places 1 + length v.items) x.1) x.2
-
-    module _ (rows : ℕ) (same : rows ≡ rows_of a) (id : ℕ) (at : id ≡ first + 1) where
-      -- so many bytes are no cells
-      pub input_long : (e : ReadFail) → e ≡ read.TooLong → Reading (Err e) → rows * 4 < length (left old id)
-          → Runs first begun (Some a) given now is.NotYetBuilt
-      input_long e too_long x more =
-          let P : ReadFail → Type 0 = λ y. Reading (Err y) in
-          let t : Reading (Err read.TooLong) = subst P too_long x in
-          unbuilt 1 t.0 (few t.0 (r.asked.places 1 + (most + 1)) t.1) t.2 (omega arith)
-          (has_none rows same (left old id) (input_left id at) (λ cells good. omega (arith, cells_short rows (left old id) cells good)))
-
-      module _ (v : Vec ℕ Global) (x : Reading (Ok v)) (all : v.items ≡ left old id) (bytes : List ℕ) (read_of : bytes ≡ v.items) where
-        pub input_odd : ((cells : List ℤ) → AreCells rows bytes cells → ⊥) → Runs first begun (Some a) given now is.NotYetBuilt
-        input_odd none =
-            unbuilt 2 x.0 (few x.0 (r.asked.places 1 + length v.items) x.1) x.2 (omega arith)
-            (has_none rows same bytes (read_of ∙ all ∙ input_left id at) none)
-
-        pub gathered : (cells : List ℤ) → AreCells rows bytes cells → IsGathered first begun a p given now (cells ∷ [])
-        gathered cells good =
-            let two : 2 ≡ 1 + input_count p = ap (λ n. 1 + n) (sym (one_input a p r.judged.pass)) in
-            let P : ℕ → Type 0 = λ n. Progress first begun (files_of a p) n x.0 given now in
-            record {
-              judged = r.judged;
-              asked = record { places = x.0; few = few x.0 (r.asked.places 1 + length v.items) x.1; progress = subst P two x.2 };
-              holds = holds;
-              inputs = has_cells rows same bytes (read_of ∙ all ∙ input_left id at) cells good;
-            }
+    pub gathered : (cells : List ℤ) → Reading (Ok cells) → IsGood layout.form ty layout.cells (left old id) cells
+        → IsGathering first begun a p given now values (arrays ++ cells ∷ []) (number + 1)
+    gathered cells x good =
+        let P : Layout → IntType → Type 0 = λ l t. IsGood l.form t l.cells (left old id) cells in
+        let Q : Layout → Type 0 = λ l. P l ty in
+        let R : IntType → Type 0 = λ t. P (layout_of a p) t in
+        let S : ℕ → Type 0 = λ n. Progress first begun (files_of a p) n x.after given now in
+        let U : ℕ → Type 0 = λ n. x.after n ≡ 0 in
+        let V : ℕ → Type 0 = λ n. HoldCells begun.bytes (form_of a) (cells_at p (rows_of a)) (input_types p.tensors) (take n (input_names a p)) (arrays ++ cells ∷ []) in
+        let more : text_count a + number + 1 ≡ text_count a + (number + 1) = omega arith in
+        let here : HoldsCells begun.bytes (form_of a) (cells_at p (rows_of a)) (slice_index_or (input_types p.tensors) number int32) name cells =
+        record { bytes = left old id; there = input_there; good = subst R r.type_is (subst Q r.layout_is good) } in
+        record {
+          judged = g.judged;
+          params = g.params;
+          asked = record { places = x.after; few = few x.after x.place x.moves; progress = subst S more x.progress };
+          unread = subst U more (next_unread first begun (files_of a p) (text_count a + number) g.asked.places before old g.asked.progress x.after x.place x.moves);
+          holds = holds;
+          there = g.there;
+          inputs = subst V (sym (add-one number))
+              (hold_more begun.bytes (form_of a) (cells_at p (rows_of a)) (input_types p.tensors) (input_names a p) number arrays cells r.within within g.inputs here);
+        }

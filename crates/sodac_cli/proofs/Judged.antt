@@ -1,5 +1,5 @@
 -- What is judged of an accepted program: how many inputs and outputs it has, the names, the limits, and what refuses it.
-use Rattle.std.proofs.Common.{◌≡◌, ℕ, suc, ◌+◌, ◌<◌, ◌≤◌, ◌==◌, Bool, true, false, not, ◌&&◌, ◌||◌, cond, List, [], ◌∷◌, map, length, take, drop, get_or, Option, Some, None, option_map, refl, sym, ap, ◌∙◌, arith, if◌then◌else◌, nat_lt}
+use Rattle.std.proofs.Common.{◌≡◌, ℕ, suc, ◌+◌, ◌<◌, ◌≤◌, ◌==◌, Bool, true, false, not, ◌&&◌, ◌||◌, cond, List, [], ◌∷◌, ◌++◌, append_assoc, map, length, take, drop, get_or, Option, Some, None, option_map, refl, sym, ap, ◌∙◌, arith, if◌then◌else◌, nat_lt}
 use Rattle.std.specs.List.{filter, list_any}
 use Rattle.std.specs.Borrow.{Bor}
 use Rattle.std.specs.Str.{bytes_eq}
@@ -15,7 +15,6 @@ use Rattle.soda_ir.specs.declared.program.Role.TheVariants.{Input, Local, Output
 use Rattle.soda_ir.specs.declared.program.Tensor.{Tensor}
 use Rattle.soda_ir.specs.declared.limit.LimitKind.TheVariants.{Cells}
 use Rattle.soda_eval.specs.Runs.{cells_at}
-use Rattle.soda_eval.specs.Sums.{IsSumProgram, is_sum_program}
 use Rattle.soda_parse.specs.declared.refusal.Refusal.{Refusal}
 use Rattle.soda_parse.specs.declared.refusal.Refusal.TheVariants.{Limit}
 use Rattle.job_files.specs.Files.{names_of}
@@ -24,7 +23,7 @@ use Rattle.command_words.specs.Orders.{Asked}
 use Rattle.sodac_cli.specs.declared.status.Status.TheVariants as is
 use Rattle.sodac_cli.specs.Due.{are_apart, first_refusal, names_fit, passed_limit, refusal_of, stages_of}
 use Rattle.sodac_cli.specs.Machine.Steps.{LetsPass}
-use Rattle.sodac_cli.specs.Work.{input_count, input_names, output_count, output_names, program_of, rows_of}
+use Rattle.sodac_cli.specs.Work.{input_count, input_names, output_count, output_names, rows_of, text_names}
 
 -- the inputs are the tensors of that role, and the outputs
 pub inputs_found : (ts : List Tensor) → length (filter (λ t. is_input_role t.role) ts) ≡ length (input_types (map plain_tensor ts))
@@ -53,35 +52,43 @@ both_within (t ∷ ts) =
     elim t.role as (λ r. length {A = IntType} (elim r [ Input ↦ t.ty ∷ ins | Local ↦ ins | Output ↦ ins ]) + length {A = IntType} (elim r [ Input ↦ outs | Local ↦ outs | Output ↦ t.ty ∷ outs ]) ≤ suc (length ts))
     [ Input ↦ omega arith | Local ↦ omega arith | Output ↦ omega arith ]
 
--- one name more, behind those that were looked at
-pub apart_more : (program : List ℕ) (names : List (List ℕ)) (n : ℕ) → n < length names
-    → are_apart (program ∷ take n names) (drop n names)
-    ≡ (not (list_any (bytes_eq (get_or names n [])) (program ∷ take n names)) && are_apart (program ∷ take (n + 1) names) (drop (n + 1) names))
-apart_more program names n lt =
-    ap (λ rest. are_apart (program ∷ take n names) rest) (drop_more names n [] lt)
-    ∙ ap (λ before. not (list_any (bytes_eq (get_or names n [])) (program ∷ take n names)) && are_apart (program ∷ before) (drop (n + 1) names)) (sym (take_more names n [] lt))
+-- one name more, behind those of the texts and those that were looked at
+pub apart_more : (texts names : List (List ℕ)) (n : ℕ) → n < length names
+    → are_apart (texts ++ take n names) (drop n names)
+    ≡ (not (list_any (bytes_eq (get_or names n [])) (texts ++ take n names)) && are_apart (texts ++ take (n + 1) names) (drop (n + 1) names))
+apart_more texts names n lt =
+    let more : (texts ++ take n names) ++ get_or names n [] ∷ [] ≡ texts ++ take (n + 1) names =
+    append_assoc texts (take n names) (get_or names n [] ∷ []) ∙ ap (λ (ns : List (List ℕ)). texts ++ ns) (sym (take_more names n [] lt)) in
+    ap (λ rest. are_apart (texts ++ take n names) rest) (drop_more names n [] lt)
+    ∙ ap (λ before. not (list_any (bytes_eq (get_or names n [])) (texts ++ take n names)) && are_apart before (drop (n + 1) names)) more
 
 -- the same of names that references point to, by a test of that name
-pub apart_step : (program : List ℕ) (names : List (Bor (List ℕ))) (n : ℕ) (d : Bor (List ℕ)) (among : Bool) → n < length names
-    → among ≡ list_any (bytes_eq (get_or names n d).now) (program ∷ names_of (take n names))
-    → are_apart (program ∷ take n (names_of names)) (drop n (names_of names))
-    ≡ (not among && are_apart (program ∷ take (n + 1) (names_of names)) (drop (n + 1) (names_of names)))
-apart_step program names n d among lt e =
+pub apart_step : (texts : List (List ℕ)) (names : List (Bor (List ℕ))) (n : ℕ) (d : Bor (List ℕ)) (among : Bool) → n < length names
+    → among ≡ list_any (bytes_eq (get_or names n d).now) (texts ++ names_of (take n names))
+    → are_apart (texts ++ take n (names_of names)) (drop n (names_of names))
+    ≡ (not among && are_apart (texts ++ take (n + 1) (names_of names)) (drop (n + 1) (names_of names)))
+apart_step texts names n d among lt e =
     let now : Bor (List ℕ) → List ℕ = λ name. name.now in
     let within : n < length (names_of names) = omega (arith, length-map names now) in
-    let later : Bool = are_apart (program ∷ take (n + 1) (names_of names)) (drop (n + 1) (names_of names)) in
-    apart_more program (names_of names) n within
-    ∙ ap (λ name. not (list_any (bytes_eq name) (program ∷ take n (names_of names))) && later) (get_or-map now names n d [] lt)
-    ∙ ap (λ before. not (list_any (bytes_eq (get_or names n d).now) (program ∷ before)) && later) (take-map now n names)
+    let later : Bool = are_apart (texts ++ take (n + 1) (names_of names)) (drop (n + 1) (names_of names)) in
+    apart_more texts (names_of names) n within
+    ∙ ap (λ name. not (list_any (bytes_eq name) (texts ++ take n (names_of names))) && later) (get_or-map now names n d [] lt)
+    ∙ ap (λ before. not (list_any (bytes_eq (get_or names n d).now) (texts ++ before)) && later) (take-map now n names)
     ∙ ap (λ b. not b && later) (sym e)
 
 -- and at the end
-pub apart_all : (program : List ℕ) (names : List (Bor (List ℕ))) (n : ℕ) → length names ≤ n
-    → are_apart (program ∷ take n (names_of names)) (drop n (names_of names)) ≡ true
-apart_all program names n le =
+pub apart_all : (texts : List (List ℕ)) (names : List (Bor (List ℕ))) (n : ℕ) → length names ≤ n
+    → are_apart (texts ++ take n (names_of names)) (drop n (names_of names)) ≡ true
+apart_all texts names n le =
     let now : Bor (List ℕ) → List ℕ = λ name. name.now in
     let past : length (names_of names) ≤ n = omega (arith, length-map names now) in
-    ap (λ rest. are_apart (program ∷ take n (names_of names)) rest) (drop_all n (names_of names) past)
+    ap (λ rest. are_apart (texts ++ take n (names_of names)) rest) (drop_all n (names_of names) past)
+
+-- a test of two lists of names, one behind the other
+pub any_of_two : (test : List ℕ → Bool) (xs ys : List (List ℕ)) → list_any test (xs ++ ys) ≡ (list_any test xs || list_any test ys)
+any_of_two test [] ys = refl
+any_of_two test (x ∷ xs) ys =
+    elim (test x) as (λ b. (b || list_any test (xs ++ ys)) ≡ ((b || list_any test xs) || list_any test ys)) [ true ↦ refl | false ↦ any_of_two test xs ys ]
 
 -- a name among those that references point to
 pub any_name : (name : List ℕ) (names : List (Bor (List ℕ))) → list_any (λ other. bytes_eq name other.now) names ≡ list_any (bytes_eq name) (names_of names)
@@ -89,13 +96,12 @@ any_name name [] = refl
 any_name name (n ∷ ns) = ap (λ b. bytes_eq name n.now || b) (any_name name ns)
 
 -- the names fit where there are as many as inputs and outputs and no output is named like another file
-pub fit_by : (a : Asked) (p : PlainProgram) (program : List ℕ) (names : List (List ℕ)) (inputs : ℕ) → program ≡ program_of a → names ≡ a.names → inputs ≡ input_count p
-    → length a.names ≡ input_count p + output_count p → are_apart (program ∷ take inputs names) (drop inputs names) ≡ names_fit a p
-fit_by a p program names inputs x y z e =
-    ap (λ name. are_apart (name ∷ take inputs names) (drop inputs names)) x
-    ∙ ap (λ ns. are_apart (program_of a ∷ take inputs ns) (drop inputs ns)) y
-    ∙ ap (λ k. are_apart (program_of a ∷ take k a.names) (drop k a.names)) z
-    ∙ sym (ap (λ b. b && are_apart (program_of a ∷ input_names a p) (output_names a p)) (eq-eqb (length a.names) (input_count p + output_count p) e))
+pub fit_by : (a : Asked) (p : PlainProgram) (names : List (List ℕ)) (inputs : ℕ) → names ≡ a.names → inputs ≡ input_count p
+    → length a.names ≡ input_count p + output_count p → are_apart (text_names a ++ take inputs names) (drop inputs names) ≡ names_fit a p
+fit_by a p names inputs y z e =
+    ap (λ ns. are_apart (text_names a ++ take inputs ns) (drop inputs ns)) y
+    ∙ ap (λ k. are_apart (text_names a ++ take k a.names) (drop k a.names)) z
+    ∙ sym (ap (λ b. b && are_apart (text_names a ++ input_names a p) (output_names a p)) (eq-eqb (length a.names) (input_count p + output_count p) e))
 
 -- where no limit is passed, an array has few cells
 few_cells : (b : Bool) (r : Refusal) (o : Option Refusal) → (if b then Some r else o) ≡ None → b ≡ false
@@ -104,29 +110,24 @@ few_cells false r o e = refl
 
 -- what is judged in `plain`, and what refuses a program
 module _ (a : Asked) (p : PlainProgram) (plain : a.mode ≡ Plain) where
-  refusal_by : (fit sum : Bool) (limit : Option Refusal) → names_fit a p ≡ fit → is_sum_program p ≡ sum → passed_limit p (rows_of a) ≡ limit
-      → refusal_of a p ≡ or_else (if fit then None else Some is.Usage) (or_else (if sum then None else Some is.NotYetBuilt) (or_else (option_map (λ r. is.Program r) limit) None))
-  refusal_by fit sum limit x y z =
+  refusal_by : (fit : Bool) (limit : Option Refusal) → names_fit a p ≡ fit → passed_limit p (rows_of a) ≡ limit
+      → refusal_of a p ≡ or_else (if fit then None else Some is.Usage) (or_else (option_map (λ r. is.Program r) limit) None)
+  refusal_by fit limit x z =
       ap (λ m. first_refusal (stages_of m) a p) plain
-      ∙ ap (λ b. or_else (if b then None else Some is.Usage) (or_else (if is_sum_program p then None else Some is.NotYetBuilt) (or_else (option_map (λ r. is.Program r) (passed_limit p (rows_of a))) None))) x
-      ∙ ap (λ b. or_else (if fit then None else Some is.Usage) (or_else (if b then None else Some is.NotYetBuilt) (or_else (option_map (λ r. is.Program r) (passed_limit p (rows_of a))) None))) y
-      ∙ ap (λ o. or_else (if fit then None else Some is.Usage) (or_else (if sum then None else Some is.NotYetBuilt) (or_else (option_map (λ r. is.Program r) o) None))) z
+      ∙ ap (λ b. or_else (if b then None else Some is.Usage) (or_else (option_map (λ r. is.Program r) (passed_limit p (rows_of a))) None)) x
+      ∙ ap (λ o. or_else (if fit then None else Some is.Usage) (or_else (option_map (λ r. is.Program r) o) None)) z
 
   pub names_refused : names_fit a p ≡ false → refusal_of a p ≡ Some is.Usage
-  names_refused x = refusal_by false (is_sum_program p) (passed_limit p (rows_of a)) x refl refl
+  names_refused x = refusal_by false (passed_limit p (rows_of a)) x refl
 
-  pub form_refused : names_fit a p ≡ true → is_sum_program p ≡ false → refusal_of a p ≡ Some is.NotYetBuilt
-  form_refused x y = refusal_by true false (passed_limit p (rows_of a)) x y refl
+  pub limit_refused : names_fit a p ≡ true → (r : Refusal) → passed_limit p (rows_of a) ≡ Some r → refusal_of a p ≡ Some (is.Program r)
+  limit_refused x r z = refusal_by true (Some r) x z
 
-  pub limit_refused : names_fit a p ≡ true → is_sum_program p ≡ true → (r : Refusal) → passed_limit p (rows_of a) ≡ Some r → refusal_of a p ≡ Some (is.Program r)
-  limit_refused x y r z = refusal_by true true (Some r) x y z
-
-  pub lets_pass : names_fit a p ≡ true → is_sum_program p ≡ true → IsSumProgram p → passed_limit p (rows_of a) ≡ None → LetsPass a p
-  lets_pass x y s z =
-      let fit = and_parts (length a.names == input_count p + output_count p) (are_apart (program_of a ∷ input_names a p) (output_names a p)) x in
+  pub lets_pass : names_fit a p ≡ true → passed_limit p (rows_of a) ≡ None → LetsPass a p
+  lets_pass x z =
+      let fit = and_parts (length a.names == input_count p + output_count p) (are_apart (text_names a ++ input_names a p) (output_names a p)) x in
       record {
-        none = refusal_by true true None x y z;
-        sum = s;
+        none = refusal_by true None x z;
         few = ltb-false most_cells (cells_at p (rows_of a)) (few_cells (nat_lt most_cells (cells_at p (rows_of a))) (Limit Cells (cells_at p (rows_of a))) _ z);
         count = eqb-true (length a.names) (input_count p + output_count p) fit.0;
         apart = fit.1;

@@ -1,20 +1,18 @@
 -- Want of memory in the place of a status.
-use Rattle.std.proofs.Common.{◌≡◌, ◌≢◌, ◌⊎◌, ℕ, Bool, true, false, List, [], ◌∷◌, ◌++◌, length, Option, Some, None, refl, sym, ap, subst, ◌∙◌, arith, append-nil, inl, inr}
+use Rattle.std.proofs.Common.{◌≡◌, ◌⊎◌, ℕ, Bool, true, false, List, [], ◌++◌, length, Option, Some, None, refl, sym, ap, subst, ◌∙◌, arith, append-nil, inl, inr}
 use Rattle.std.proofs.lemmas.List.{take_all}
 use Rattle.soda_io.specs.Store.{Store}
 use Rattle.soda_ir.specs.Program.{PlainProgram}
 use Rattle.job_files.specs.Contents.{Holding}
 use Rattle.job_files.specs.Files.{JobFile}
-use Rattle.command_words.specs.declared.mode.Mode.{Mode}
-use Rattle.command_words.specs.declared.mode.Mode.TheVariants.{Check}
 use Rattle.command_words.specs.Orders.{Asked}
 use Rattle.sodac_cli.specs.declared.status.Status.{Status}
 use Rattle.sodac_cli.specs.declared.status.Status.TheVariants as is
 use Rattle.sodac_cli.specs.Correct.{Runs}
-use Rattle.sodac_cli.specs.Due.{DueFor, DueIf, DueOf, DueOver, MayAsk, MayAskFor, MayAskIf, accepted, asks_arrays, asks_program, refusal_of, refused}
+use Rattle.sodac_cli.specs.Due.{DueAfter, DueBy, DueFor, DueIf, DueOf, DueWith, MayAsk, MayAskFor, MayAskIf, accepted, asks_arrays, asks_params, asks_program, bad_params, good_params, refusal_of, refused}
 use Rattle.sodac_cli.specs.Endings.{AsksBy, AsksSome, AsksUntilDue, Ending, due, ending_of, file_fault, memory, out_fault}
-use Rattle.sodac_cli.specs.Printed.{Prints, PrintsAll, PrintsBy, PrintsPrefix, printed, prints}
-use Rattle.sodac_cli.specs.Work.{HasProgram, files_of, is_built, program_file}
+use Rattle.sodac_cli.specs.Printed.{Prints, PrintsAll, PrintsBy, PrintsPrefix, printed}
+use Rattle.sodac_cli.specs.Work.{HasProgram, is_built, writes_arrays}
 
 -- what holds of the own status and for want of memory holds of what is answered
 pub of_answer : (P : Status → Type 0) {Same : Type 0} (own answer : Status) → (answer ≡ own) ⊎ ((answer ≡ is.Memory) × Same) → P own → P is.Memory
@@ -24,16 +22,22 @@ of_answer P own answer (inr other) at_own at_memory = subst P (sym other.0) at_m
 
 -- files that are asked for until a status is due may be asked for before want of memory
 module _ (h : Holding) (a : Asked) (files : List JobFile) (s : Status) where
-  abbrev Behind : PlainProgram → Option Status → Type 0
-  Behind p o = elim o [ None ↦ (files ≡ files_of a p) × DueOver h a p s | Some r ↦ (files ≡ program_file a ∷ []) × (s ≡ r) ]
+  module _ (p : PlainProgram) (has : HasProgram h a p) where
+    may_with : refusal_of a p ≡ None → writes_arrays a.mode ≡ true → DueWith h a p files s → MayAsk h a files
+    may_with none writes (bad_params line refuses all ends) = asks_params writes p has none all
+    may_with none writes (good_params values given all over) = asks_arrays writes p has none values given [] (sym all ∙ sym (append-nil files))
 
-  may_behind : (p : PlainProgram) → HasProgram h a p → (o : Option Status) → refusal_of a p ≡ o → Behind p o → MayAsk h a files
-  may_behind p has None none d = asks_arrays p has none [] (sym d.0 ∙ sym (append-nil files))
-  may_behind p has (Some r) some d = asks_program d.0
+    may_by : refusal_of a p ≡ None → (writes : Bool) → writes_arrays a.mode ≡ writes → DueBy writes h a p files s → MayAsk h a files
+    may_by none true writes d = may_with none writes d
+    may_by none false writes d = asks_program d.0
+
+    may_after : (o : Option Status) → refusal_of a p ≡ o → DueAfter o h a p files s → MayAsk h a files
+    may_after None none d = may_by none (writes_arrays a.mode) refl d
+    may_after (Some r) some d = asks_program d.0
 
   may_of : DueOf h a files s → MayAsk h a files
   may_of (refused text r there refuses all ends) = asks_program all
-  may_of (accepted p has d) = may_behind p has (refusal_of a p) refl d
+  may_of (accepted p has d) = may_after p has (refusal_of a p) refl d
 
   may_if : (b : Bool) → DueIf b h a files s → MayAskIf b h a files
   may_if true d = may_of d
@@ -80,6 +84,7 @@ module _ (h : Holding) (a : Asked) (old new : List ℕ) where
   memory_by is.Ok t = all_printed t
   memory_by is.Usage t = inl t
   memory_by (is.Program r) t = inl t
+  memory_by (is.Array fault) t = inl t
   memory_by (is.FileFault role) t = inl t
   memory_by is.OutFault t = inr t.1
   memory_by is.Memory t = t

@@ -1,41 +1,75 @@
 -- One status alone is due, over one list of files.
-use Rattle.std.proofs.Common.{◌≡◌, ℕ, Bool, true, false, List, [], ◌∷◌, Option, Some, None, refl, sym, ap, subst, ◌∙◌}
+use Rattle.std.proofs.Common.{◌≡◌, ℕ, Bool, true, false, List, Option, Some, None, ℤ, refl, sym, ap, subst, ◌∙◌}
 use Rattle.std.proofs.lemmas.Option.{same_Some}
 use Rattle.soda_words.specs.Limits.{most_text}
-use Rattle.soda_ir.specs.Program.{PlainProgram}
+use Rattle.soda_ir.specs.Program.{PlainParam, PlainProgram, input_types}
+use Rattle.soda_eval.specs.Runs.{cells_at}
+use Rattle.array_bytes.specs.declared.fault.CellFault.{CellFault}
+use Rattle.param_lines.specs.Params.{GivesParams, RefusesLine}
 use Rattle.soda_parse.specs.Text.{Accepts, Refuses}
 use Rattle.soda_parse.specs.declared.refusal.Refusal.{Refusal}
 use Rattle.job_files.specs.Contents.{Holding}
 use Rattle.job_files.specs.Files.{JobFile}
 use Rattle.command_words.specs.Orders.{Asked}
+use Rattle.sodac_cli.specs.declared.status.ArrayFault.TheVariants as of
 use Rattle.sodac_cli.specs.declared.status.Status.{Status}
 use Rattle.sodac_cli.specs.declared.status.Status.TheVariants as is
-use Rattle.sodac_cli.specs.Due.{DueBehind, DueFor, DueIf, DueOf, DueOver, accepted, done, odd, refused, refusal_of}
-use Rattle.sodac_cli.specs.Work.{HasProgram, files_of, is_built, program_file, program_of}
+use Rattle.sodac_cli.specs.Due.{DueAfter, DueBehind, DueBy, DueFor, DueIf, DueOf, DueOver, DueWith, accepted, bad_params, done, faulty, good_params, refused, refusal_of}
+use Rattle.sodac_cli.specs.Work.{HasParamsBy, HasProgram, RefusesParamsBy, form_of, input_names, is_built, program_of, rows_of, writes_arrays}
+use Rattle.sodac_cli.proofs.ArrayLaws.{fault_or_arrays, faults_one}
 
 -- over the inputs
 over_one : (h : Holding) (a : Asked) (p : PlainProgram) (s t : Status) → DueOver h a p s → DueOver h a p t → s ≡ t
 over_one h a p s t (done arrays has) (done others had) = refl
-over_one h a p s t (done arrays has) (odd there none) = absurd (none arrays has)
-over_one h a p s t (odd there none) (done arrays has) = absurd (none arrays has)
-over_one h a p s t (odd there none) (odd here never) = refl
+over_one h a p s t (done arrays has) (faulty there k f fault) =
+    absurd (fault_or_arrays h (form_of a) (cells_at p (rows_of a)) (input_types p.tensors) (input_names a p) k f arrays fault has)
+over_one h a p s t (faulty there k f fault) (done arrays has) =
+    absurd (fault_or_arrays h (form_of a) (cells_at p (rows_of a)) (input_types p.tensors) (input_names a p) k f arrays fault has)
+over_one h a p s t (faulty there k f fault) (faulty here l g other) =
+    let same = faults_one h (form_of a) (cells_at p (rows_of a)) (input_types p.tensors) (input_names a p) k l f g fault other in
+    ap (λ (i : ℕ). is.Array (of.Cell i f)) same.0 ∙ ap (λ (x : CellFault). is.Array (of.Cell l x)) same.1
 
--- what is due behind a program, by what refuses it
-abbrev behind : Holding → Asked → PlainProgram → Option Status → List JobFile → Status → Type 0
-behind h a p o files status = elim o [
-  | None ↦ (files ≡ files_of a p) × DueOver h a p status
-  | Some refusal ↦ (files ≡ program_file a ∷ []) × (status ≡ refusal)
-]
+-- a params file gives one list of values at most, is refused at one line at most, and never does both
+module _ (values_one : (ps : List PlainParam) (bytes : List ℕ) (v w : List ℤ) → GivesParams ps bytes v → GivesParams ps bytes w → v ≡ w)
+    (line_one : (ps : List PlainParam) (bytes : List ℕ) (k l : ℕ) → RefusesLine ps bytes k → RefusesLine ps bytes l → k ≡ l)
+    (never_both : (ps : List PlainParam) (bytes : List ℕ) (v : List ℤ) (l : ℕ) → GivesParams ps bytes v → RefusesLine ps bytes l → ⊥)
+    (h : Holding) (p : PlainProgram) where
+  lines_by : (o : Option (List ℕ)) (k l : ℕ) → RefusesParamsBy o h p k → RefusesParamsBy o h p l → k ≡ l
+  lines_by None k l x y = x.1 ∙ sym y.1
+  lines_by (Some name) k l x y =
+      let P : List ℕ → Type 0 = λ bytes. RefusesLine p.params bytes l in
+      line_one p.params x.0 k l x.2 (subst P (same_Some y.0 x.0 (sym y.1 ∙ x.1)) y.2)
 
-behind_one : (h : Holding) (a : Asked) (p : PlainProgram) (f g : List JobFile) (s t : Status) (o : Option Status)
-    → behind h a p o f s → behind h a p o g t → (s ≡ t) × (f ≡ g)
-behind_one h a p f g s t None x y = (over_one h a p s t x.1 y.1, x.0 ∙ sym y.0)
-behind_one h a p f g s t (Some r) x y = (x.1 ∙ sym y.1, x.0 ∙ sym y.0)
+  never_by : (o : Option (List ℕ)) (v : List ℤ) (l : ℕ) → HasParamsBy o h p v → RefusesParamsBy o h p l → ⊥
+  never_by None v l x y = y.0 x.0
+  never_by (Some name) v l x y =
+      let P : List ℕ → Type 0 = λ bytes. RefusesLine p.params bytes l in
+      never_both p.params x.0 v l x.2 (subst P (same_Some y.0 x.0 (sym y.1 ∙ x.1)) y.2)
+
+  module _ (a : Asked) where
+    -- behind a program that no step refuses
+    with_one : (f g : List JobFile) (s t : Status) → DueWith h a p f s → DueWith h a p g t → (s ≡ t) × (f ≡ g)
+    with_one f g s t (bad_params k refuses all ends) (bad_params l gone those stops) =
+        (ends ∙ ap (λ (i : ℕ). is.Array (of.Params i)) (lines_by a.params k l refuses gone) ∙ sym stops, all ∙ sym those)
+    with_one f g s t (bad_params k refuses all ends) (good_params values given those over) = absurd (never_by a.params values k given refuses)
+    with_one f g s t (good_params values given all over) (bad_params k refuses those ends) = absurd (never_by a.params values k given refuses)
+    with_one f g s t (good_params values given all over) (good_params others also those more) = (over_one h a p s t over more, all ∙ sym those)
+
+    by_one : (writes : Bool) (f g : List JobFile) (s t : Status) → DueBy writes h a p f s → DueBy writes h a p g t → (s ≡ t) × (f ≡ g)
+    by_one true f g s t x y = with_one f g s t x y
+    by_one false f g s t x y = (x.1 ∙ sym y.1, x.0 ∙ sym y.0)
+
+    pub behind_one : (f g : List JobFile) (s t : Status) (o : Option Status) → DueAfter o h a p f s → DueAfter o h a p g t → (s ≡ t) × (f ≡ g)
+    behind_one f g s t None x y = by_one (writes_arrays a.mode) f g s t x y
+    behind_one f g s t (Some r) x y = (x.1 ∙ sym y.1, x.0 ∙ sym y.0)
 
 -- a text stands for one program at most, is refused for one cause at most, and never does both
 module _ (program : (most : ℕ) (bytes : List ℕ) (p q : PlainProgram) → Accepts most bytes p → Accepts most bytes q → p ≡ q)
     (cause : (most : ℕ) (bytes : List ℕ) (r s : Refusal) → Refuses most bytes r → Refuses most bytes s → r ≡ s)
     (apart : (most : ℕ) (bytes : List ℕ) (p : PlainProgram) (r : Refusal) → Accepts most bytes p → Refuses most bytes r → ⊥)
+    (values_one : (ps : List PlainParam) (bytes : List ℕ) (v w : List ℤ) → GivesParams ps bytes v → GivesParams ps bytes w → v ≡ w)
+    (line_one : (ps : List PlainParam) (bytes : List ℕ) (k l : ℕ) → RefusesLine ps bytes k → RefusesLine ps bytes l → k ≡ l)
+    (never_both : (ps : List PlainParam) (bytes : List ℕ) (v : List ℤ) (l : ℕ) → GivesParams ps bytes v → RefusesLine ps bytes l → ⊥)
     (h : Holding) where
   -- the program's file holds one text
   accepted_there : (a : Asked) (p : PlainProgram) (bytes : List ℕ) → h (program_of a) ≡ Some bytes → HasProgram h a p → Accepts most_text bytes p
@@ -55,7 +89,7 @@ module _ (program : (most : ℕ) (bytes : List ℕ) (p q : PlainProgram) → Acc
   of_one a f g s t (accepted p has d) (refused text r there gone files ends) = absurd (apart most_text text p r (accepted_there a p text there has) gone)
   of_one a f g s t (accepted p has d) (accepted q had e) =
       let P : PlainProgram → Type 0 = λ x. DueBehind h a x g t in
-      behind_one h a p f g s t (refusal_of a p) d (subst P (sym (one_program a p q has had)) e)
+      behind_one values_one line_one never_both h p a f g s t (refusal_of a p) d (subst P (sym (one_program a p q has had)) e)
 
   if_one : (b : Bool) (a : Asked) (f g : List JobFile) (s t : Status) → DueIf b h a f s → DueIf b h a g t → (s ≡ t) × (f ≡ g)
   if_one true a f g s t x y = of_one a f g s t x y

@@ -1,25 +1,13 @@
 -- Which answers the words allow.
-use Rattle.std.proofs.Common.{◌≡◌, ◌≢◌, ◌⊎◌, Bool, true, false, Option, Some, None, refl, sym, subst, inl, inr}
+use Rattle.std.proofs.Common.{◌≡◌, ◌≢◌, Bool, true, false, Some, sym, subst, inr}
 use Rattle.soda_io.specs.declared.role.FileRole.{FileRole}
-use Rattle.soda_io.specs.declared.role.FileRole.TheVariants.{Program}
 use Rattle.command_words.specs.declared.mode.Mode.{Mode}
 use Rattle.command_words.specs.Orders.{Asked}
 use Rattle.sodac_cli.specs.declared.status.Status.{Status}
 use Rattle.sodac_cli.specs.declared.status.Status.TheVariants as is
-use Rattle.sodac_cli.specs.Allowed.{Allows, AllowsCheck, AllowsIf, AllowsMode, AllowsPlain, IsOfArrays}
-use Rattle.sodac_cli.specs.Endings.{Ending, due, ending_of}
+use Rattle.sodac_cli.specs.Allowed.{Allows, AllowsCheck, AllowsIf, AllowsMode, AllowsPlain, IsOfPlain}
 use Rattle.sodac_cli.specs.Machine.Text.{IsOfText}
 use Rattle.sodac_cli.specs.Work.{is_built}
-
--- a status that is due comes in `plain`
-pub due_allowed : (s : Status) → ending_of s ≡ due → AllowsPlain s
-due_allowed is.Ok e = tt
-due_allowed is.Usage e = tt
-due_allowed (is.Program r) e = tt
-due_allowed (is.FileFault role) e = absurd (cc)
-due_allowed is.OutFault e = absurd (cc)
-due_allowed is.Memory e = tt
-due_allowed is.NotYetBuilt e = tt
 
 -- what `plain` can end with is no fault of `out`
 pub not_out_fault : (s : Status) → AllowsPlain s → s ≢ is.OutFault
@@ -27,15 +15,17 @@ not_out_fault is.OutFault allowed = absurd allowed
 not_out_fault is.Ok allowed = λ e. absurd (cc)
 not_out_fault is.Usage allowed = λ e. absurd (cc)
 not_out_fault (is.Program r) allowed = λ e. absurd (cc)
+not_out_fault (is.Array fault) allowed = λ e. absurd (cc)
 not_out_fault (is.FileFault role) allowed = λ e. absurd (cc)
 not_out_fault is.Memory allowed = λ e. absurd (cc)
-not_out_fault is.NotYetBuilt allowed = λ e. absurd (cc)
+not_out_fault is.NotYetBuilt allowed = absurd allowed
 
 -- a status with which the program's file or its text ends a job comes in both modes
 pub text_in_check : (s : Status) → IsOfText s → AllowsCheck s
 text_in_check is.Ok t = absurd t
 text_in_check is.Usage t = absurd t
 text_in_check (is.Program r) t = tt
+text_in_check (is.Array fault) t = absurd t
 text_in_check (is.FileFault role) t = t
 text_in_check is.OutFault t = absurd t
 text_in_check is.Memory t = tt
@@ -45,7 +35,8 @@ pub text_in_plain : (s : Status) → IsOfText s → AllowsPlain s
 text_in_plain is.Ok t = absurd t
 text_in_plain is.Usage t = absurd t
 text_in_plain (is.Program r) t = tt
-text_in_plain (is.FileFault role) t = let P : FileRole → Type 0 = λ r. IsOfArrays r in subst P (sym t) tt
+text_in_plain (is.Array fault) t = absurd t
+text_in_plain (is.FileFault role) t = let P : FileRole → Type 0 = λ r. IsOfPlain r in subst P (sym t) tt
 text_in_plain is.OutFault t = absurd t
 text_in_plain is.Memory t = tt
 text_in_plain is.NotYetBuilt t = absurd t

@@ -1,42 +1,30 @@
 -- A job of the mode `check` behind the reading of its program.
-use Rattle.std.proofs.Common.{◌≡◌, ℕ, true, List, [], ◌∷◌, ◌++◌, take, drop, Some, None, refl, sym, ap, subst, ◌∙◌}
-use Rattle.std.proofs.Math.Seq.{drop-nil, take-nil}
+use Rattle.std.proofs.Common.{◌≡◌, ℕ, true, false, [], ◌∷◌, Some, None, refl, sym, ap, subst}
 use Rattle.soda_io.specs.Store.{Store}
 use Rattle.soda_ir.specs.Program.{PlainProgram}
-use Rattle.soda_eval.specs.Runs.{cells_at}
 use Rattle.command_words.specs.declared.mode.Mode.{Mode}
 use Rattle.command_words.specs.declared.mode.Mode.TheVariants.{Check}
 use Rattle.command_words.specs.Orders.{Asked}
 use Rattle.sodac_cli.specs.declared.status.Status.TheVariants as is
 use Rattle.sodac_cli.specs.Correct.{Runs}
-use Rattle.sodac_cli.specs.Due.{DueOf, accepted, done, first_refusal, refusal_of, stages_of}
+use Rattle.sodac_cli.specs.Due.{DueOf, accepted, first_refusal, refusal_of, stages_of}
 use Rattle.sodac_cli.specs.Machine.Steps.{IsRead}
 use Rattle.sodac_cli.specs.Outputs.{Delivers, DeliversIf}
-use Rattle.sodac_cli.specs.Work.{HasInputs, HoldCells, files_of, input_count, input_names, inputs_from, is_built, outputs_from, program_file, rows_of, writes_arrays}
-use Rattle.sodac_cli.proofs.Begun.{due_built, due_over}
+use Rattle.sodac_cli.specs.Work.{is_built, program_file, writes_arrays}
+use Rattle.sodac_cli.proofs.Begun.{due_built, due_done}
 use Rattle.sodac_cli.proofs.Reading.{read_asks, read_due, read_leaves, read_memory}
 
 -- what a job of `check` does with the files
 module _ (p : PlainProgram) (first : ℕ) (begun : Store) (a : Asked) (given : ℕ) (now : Store) (mode : a.mode ≡ Check)
-    (built : is_built a ≡ true) (no_names : a.names ≡ []) (w : IsRead first begun a p given now) where
+    (built : is_built a ≡ true) (w : IsRead first begun a p given now) where
   none : refusal_of a p ≡ None
   none = ap (λ (m : Mode). first_refusal (stages_of m) a p) mode
 
-  no_inputs : input_names a p ≡ []
-  no_inputs = ap (λ (names : List (List ℕ)). take (input_count p) names) no_names ∙ take-nil (input_count p)
-
-  no_outputs : drop (input_count p) a.names ≡ []
-  no_outputs = ap (λ (names : List (List ℕ)). drop (input_count p) names) no_names ∙ drop-nil (input_count p)
-
-  alone : program_file a ∷ [] ≡ files_of a p
-  alone = sym (ap (λ (names : List (List ℕ)). program_file a ∷ (inputs_from 0 names ++ outputs_from 0 (drop (input_count p) a.names))) no_inputs
-      ∙ ap (λ (names : List (List ℕ)). program_file a ∷ outputs_from 0 names) no_outputs)
-
-  inputs : HasInputs begun.bytes a p []
-  inputs = let P : List (List ℕ) → Type 0 = λ names. HoldCells begun.bytes (cells_at p (rows_of a)) names [] in subst P (sym no_inputs) tt
+  writes_none : writes_arrays a.mode ≡ false
+  writes_none = ap writes_arrays mode
 
   is_done : DueOf begun.bytes a (program_file a ∷ []) is.Ok
-  is_done = accepted p w.program (due_over begun.bytes a p (program_file a ∷ []) is.Ok none alone (done [] inputs))
+  is_done = accepted p w.program (due_done begun.bytes a p (program_file a ∷ []) is.Ok none writes_none refl refl)
 
   delivered : Delivers begun.bytes now.bytes (Some a)
   delivered = let P : Mode → Type 0 = λ m. DeliversIf (writes_arrays m) begun.bytes now.bytes a in subst P (sym mode) tt

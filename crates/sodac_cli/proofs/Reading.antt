@@ -26,11 +26,12 @@ use Rattle.sodac_cli.specs.declared.status.Status.{Status}
 use Rattle.sodac_cli.specs.declared.status.Status.TheVariants as is
 use Rattle.sodac_cli.specs.Correct.{Runs}
 use Rattle.sodac_cli.specs.Due.{DueOf, asks_none, asks_program, refused}
-use Rattle.sodac_cli.specs.Endings.{AsksAll, due, ending_of}
+use Rattle.sodac_cli.specs.Endings.{AsksAll, ReadsFew, due, ending_of}
 use Rattle.sodac_cli.specs.Machine.Text.{HasText, unread_status}
 use Rattle.sodac_cli.specs.Outputs.{Delivers, Leaves}
 use Rattle.sodac_cli.specs.Work.{is_built, program_file, program_of}
 use Rattle.sodac_cli.proofs.Begun.{leaves_asked, leaves_stuck, runs_due, runs_fault, runs_memory}
+use Rattle.sodac_cli.proofs.Few.{few_none, few_program}
 
 -- how the file of a name is asked for
 abbrev opening : List ℕ → Bool × List ℕ
@@ -50,13 +51,13 @@ module _ (first : ℕ) (begun : Store) (name : List ℕ) (given : ℕ) (now : St
   unopened_fault same =
       let s : Stuck first begun (program_file a ∷ []) 0 0 (λ n. 0) given now = let P : IoErr → Type 0 = λ x. Asks x in subst P same here in
       runs_fault first begun a given now built (leaves_stuck first begun a given now keeps (program_file a ∷ []) 0 (λ n. 0) refl 0 s)
-      (program_file a ∷ []) (asks_program refl) 0 (λ n. 0) (omega arith) Program 0 refl s
+      (program_file a ∷ []) (asks_program refl) 0 (λ n. 0) (few_none a) Program 0 refl s
 
   pub unopened_memory : e ≡ io.Memory → Runs first begun (Some a) given now is.Memory
   unopened_memory same =
       let p : Progress first begun [] 0 (λ n. 0) given now = let P : IoErr → Type 0 = λ x. Asks x in subst P same here in
       runs_memory first begun a given now built (leaves_asked first begun a given now keeps [] 0 (λ n. 0) refl p)
-      [] (asks_none refl) 0 (λ n. 0) (omega arith) p
+      [] (asks_none refl) 0 (λ n. 0) (few_none a) p
 
 -- it was opened
 module _ (first : ℕ) (begun : Store) (name : List ℕ) (before : ℕ) (mid : Store) (id : ℕ)
@@ -105,7 +106,7 @@ module _ (first : ℕ) (begun : Store) (name : List ℕ) (before : ℕ) (mid : S
           record {
             there = text_there a named ∙ ap (λ (bytes : List ℕ). Some bytes) (sym whole);
             places = m.0;
-            few = omega (arith, m.1.own);
+            few = few_program a m.0 (0 + length v.items) m.1 (omega (arith, short));
             progress = m.2;
             keeps = keeps;
           }
@@ -119,25 +120,33 @@ module _ (first : ℕ) (begun : Store) (name : List ℕ) (before : ℕ) (mid : S
           runs_due first begun a given now built (leaves_asked first begun a given now keeps (program_file a ∷ []) 0 m.0 refl m.2)
           (program_file a ∷ []) (is.Program TextTooLong) refl
           (refused (left mid id) TextTooLong (text_there a named) (too_long (long refl)) refl refl)
-          (record { ended = 0; places = m.0; progress = m.2; few = omega (arith, m.1.own); all = λ e. absurd (cc); some = λ ne. absurd (ne refl) })
+          (record {
+            ended = 0;
+            places = m.0;
+            progress = m.2;
+            few = few_program a m.0 (0 + (most_text + 1)) m.1 (omega arith);
+            all = λ e. absurd (cc);
+            program = λ ne. absurd (ne refl);
+            texts = λ ne also. absurd (ne refl);
+          })
           (λ e. absurd (cc))
       text_ends (Err read.Failed) reads long = λ a named built.
           let m = reads_program (Err read.Failed) reads a named in
           runs_fault first begun a given now built (leaves_stuck first begun a given now keeps (program_file a ∷ []) 0 m.0 refl 0 m.4)
-          (program_file a ∷ []) (asks_program refl) 0 m.0 (omega (arith, m.2, m.3.own)) Program 0 refl m.4
+          (program_file a ∷ []) (asks_program refl) 0 m.0 (few_program a m.0 m.1 m.3 (omega (arith, m.2))) Program 0 refl m.4
       text_ends (Err read.Memory) reads long = λ a named built.
           let m = reads_program (Err read.Memory) reads a named in
           runs_memory first begun a given now built (leaves_asked first begun a given now keeps (program_file a ∷ []) 0 m.0 refl m.4)
-          (program_file a ∷ []) (asks_program refl) 0 m.0 (omega (arith, m.2, m.3.own)) m.4
+          (program_file a ∷ []) (asks_program refl) 0 m.0 (few_program a m.0 m.1 m.3 (omega (arith, m.2))) m.4
 
 -- the program's file was read to its end, and that is as far as the job goes
 module _ (first : ℕ) (begun : Store) (a : Asked) (given : ℕ) (now : Store) (built : is_built a ≡ true) (keeps : KeepsBytes begun now)
-    (places : ℕ → ℕ) (few : places 0 ≤ most_text + 1) (progress : Progress first begun (program_file a ∷ []) 1 places given now) where
+    (places : ℕ → ℕ) (few : ReadsFew a places) (progress : Progress first begun (program_file a ∷ []) 1 places given now) where
   pub read_leaves : Leaves begun now (Some a)
   read_leaves = leaves_asked first begun a given now keeps (program_file a ∷ []) 1 places refl progress
 
   pub read_asks : (status : Status) → AsksAll first begun (Some a) given now status (program_file a ∷ [])
-  read_asks status = record { ended = 1; places = places; progress = progress; few = few; all = λ e. refl; some = λ ne. omega arith }
+  read_asks status = record { ended = 1; places = places; progress = progress; few = few; all = λ e. refl; program = λ ne. omega arith; texts = λ ne also. omega arith }
 
   pub read_due : (status : Status) → ending_of status ≡ due → DueOf begun.bytes a (program_file a ∷ []) status
       → (status ≡ is.Ok → Delivers begun.bytes now.bytes (Some a)) → Runs first begun (Some a) given now status

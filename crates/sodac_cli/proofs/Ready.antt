@@ -1,25 +1,18 @@
--- A job of the mode `plain` whose arrays are asked for.
-use Rattle.std.proofs.Common.{◌≡◌, ℕ, ◌+◌, true, false, List, [], ◌∷◌, length, map, take, drop, Some, ℤ, Bor, refl, sym, ap, ◌∙◌, arith, inl, inr}
-use Rattle.std.proofs.lemmas.List.{drop-map, length-map, take-map}
-use Rattle.soda_io.specs.Store.{Store}
-use Rattle.soda_ir.specs.Program.{PlainProgram}
-use Rattle.soda_eval.specs.Sums.{IsSumProgram}
-use Rattle.job_files.specs.Contents.{emptied}
+-- A job of the mode `plain` whose arrays are asked for: names, ids and bursts.
+use Rattle.std.proofs.Common.{◌≡◌, ◌<◌, ◌≤◌, ℕ, zero, suc, ◌+◌, ◌*◌, ◌%◌, ◌==◌, true, List, [], ◌∷◌, length, take, drop, slice_index_or, All, Bor, refl, sym, ap, ◌∙◌, arith}
+use Rattle.std.specs.List.{list_all}
+use Rattle.std.proofs.lemmas.Bool.{and_parts, eqb-true}
+use Rattle.std.proofs.lemmas.List.{drop-map, take-map}
+use Rattle.std.proofs.lemmas.List.Elements.{All-cons, All-nil}
+use Rattle.soda_words.specs.IntType.{IntType}
+use Rattle.soda_words.specs.Limits.{least_burst, most_burst}
+use Rattle.soda_ir.specs.Program.{PlainTensor, input_types}
+use Rattle.soda_ir.specs.Valid.{cell_size as cell_size_of, fills_burst, output_types}
+use Rattle.soda_ir.specs.declared.program.Role.TheVariants.{Input, Local, Output}
+use Rattle.array_bytes.specs.Sizes.{cell_size}
+use Rattle.job_arrays.specs.Arrays.{FillBurst}
 use Rattle.job_files.specs.Files.{ids_from, names_of}
-use Rattle.job_files.specs.Progress.{Progress}
-use Rattle.job_files.proofs.CallerLemmas.{id_opened}
-use Rattle.command_words.specs.Orders.{Asked}
-use Rattle.sodac_cli.specs.declared.status.Status.TheVariants as is
-use Rattle.sodac_cli.specs.Correct.{Runs}
-use Rattle.sodac_cli.specs.Machine.Steps.{HasIds, IsGathered, IsRead, IsReady, LetsPass}
-use Rattle.sodac_cli.specs.Work.{files_of, input_count, input_names, output_count, output_names, rows_of}
-use Rattle.sodac_cli.proofs.AllAsked.{all_memory}
-use Rattle.sodac_cli.proofs.Counted.{input, input_file, input_there, output, output_file, output_there}
-use Rattle.sodac_cli.proofs.Emptied.{all_empty, emptied_names}
-
--- the one id of a list
-pub one_id : (ids : List ℕ) (id count : ℕ) → ids ≡ ids_from id count → count ≡ 1 → ids ≡ id ∷ []
-one_id ids id count are one = are ∙ ap (ids_from id) one
+use Rattle.sodac_cli.specs.Work.{first_extent}
 
 -- the names that references point to, in front of a place and behind it
 pub names_front : (names front : List (Bor (List ℕ))) (n count : ℕ) → front ≡ take n names → n ≡ count → names_of front ≡ take count (names_of names)
@@ -40,36 +33,64 @@ module _ (items names : List (Bor (List ℕ))) (taken : names ≡ items) (n coun
   outputs_named rest are =
       names_rest names rest n count are same ∙ ap (λ (ns : List (Bor (List ℕ))). drop count (names_of ns)) taken
 
--- a program of one sum has one output
-pub one_output : (p : PlainProgram) → IsSumProgram p → output_count p ≡ 1
-one_output p s = ap (λ (q : PlainProgram). output_count q) s.is
+-- so many ids are below the next one
+pub ids_below : (start count bound : ℕ) → start + count ≤ bound → All (λ id. id < bound) (ids_from start count)
+ids_below start zero bound le = All-nil (λ (id : ℕ). id < bound)
+ids_below start (suc count) bound le =
+    All-cons (λ (id : ℕ). id < bound) start (ids_from (start + 1) count) (omega arith) (ids_below (start + 1) count bound (omega arith))
 
-module _ (first : ℕ) (begun : Store) (a : Asked) (p : PlainProgram) (given : ℕ) (now : Store) where
-  -- the input was opened, and the output created
-  module _ (pass : LetsPass a p) (ended : ℕ) (places : ℕ → ℕ) (progress : Progress first begun (files_of a p) ended places given now) where
-    pub input_opened : (id : ℕ) → id ≡ first + 1 → now.opened id ≡ true
-    input_opened id is_id = ap (λ (k : ℕ). now.opened k) is_id
-        ∙ id_opened first begun (files_of a p) ended places given now progress 1 (input_file (input a p pass)) (input_there a p pass)
+pub ids_length : (start count : ℕ) → length (ids_from start count) ≡ count
+ids_length start zero = refl
+ids_length start (suc count) = ap suc (ids_length (start + 1) count)
 
-    pub output_created : (id : ℕ) → id ≡ first + 2 → now.opened id ≡ false
-    output_created id is_id = ap (λ (k : ℕ). now.opened k) is_id
-        ∙ id_opened first begun (files_of a p) ended places given now progress 2 (output_file (output a p pass)) (output_there a p pass)
+-- whole cells of each input and output fill a burst
+same_size : (t : IntType) → cell_size_of t ≡ cell_size t
+unfolding cell_size
+same_size t = refl
 
-  -- memory is refused behind the reading of the input
-  pub gathered_memory : (arrays : List (List ℤ)) → IsGathered first begun a p given now arrays → Runs first begun (Some a) given now is.Memory
-  gathered_memory arrays g =
-      let empty = map emptied (output_names a p) in
-      all_memory first begun a p g.judged given now empty (emptied_names (output_names a p)) g.holds
-      (inr (record { plain = p; program = g.judged.program; prefixes = inl (all_empty (output_names a p)) }))
-      (1 + input_count p) g.asked.places g.asked.few g.asked.progress
-
--- the ids behind that of the program
-pub has_ids : (first : ℕ) (begun : Store) (a : Asked) (p : PlainProgram) (given : ℕ) (now : Store) (later : ℕ) (after : Store) (rows input output : ℕ)
-    → rows ≡ rows_of a → IsRead first begun a p given now → input ≡ given → output ≡ given + 1 → IsReady first begun a p later after
-    → HasIds first begun a p later after rows input output
-has_ids first begun a p given now later after rows input output rows_are w input_is output_is ready = record {
-  rows_are = rows_are;
-  input_is = omega (arith, input_is, w.asked.progress.well.count);
-  output_is = omega (arith, output_is, w.asked.progress.well.count);
-  ready = ready;
+burst_of : (burst : ℕ) (t : IntType) → least_burst ≤ burst → burst ≤ most_burst → (burst % (8 * cell_size_of t) == 0) ≡ true → FillBurst burst t
+burst_of burst t least most whole = record {
+  least = least;
+  most = most;
+  whole = ap (λ (n : ℕ). burst % (8 * n)) (sym (same_size t)) ∙ eqb-true (burst % (8 * cell_size_of t)) 0 whole;
 }
+
+module _ (burst : ℕ) (least : least_burst ≤ burst) (most : burst ≤ most_burst) where
+  pub inputs_fill : (ts : List PlainTensor) → list_all (fills_burst burst) ts ≡ true → All (λ t. FillBurst burst t) (input_types ts)
+  inputs_fill [] all = All-nil (λ (t : IntType). FillBurst burst t)
+  inputs_fill (t ∷ ts) all =
+      let both = and_parts (fills_burst burst t) (list_all (fills_burst burst) ts) all in
+      let rest = inputs_fill ts both.1 in
+      elim t.role as (λ r. (elim r [
+        | Local ↦ true
+        | Input ↦ burst % (8 * cell_size_of t.ty) == 0
+        | Output ↦ burst % (8 * cell_size_of t.ty) == 0
+      ]) ≡ true → All (λ u. FillBurst burst u) (elim r [ Input ↦ t.ty ∷ input_types ts | Local ↦ input_types ts | Output ↦ input_types ts ])) [
+        | Input ↦ λ fits. All-cons (λ (u : IntType). FillBurst burst u) t.ty (input_types ts) (burst_of burst t.ty least most fits) rest
+        | Local ↦ λ fits. rest
+        | Output ↦ λ fits. rest
+      ] both.0
+
+  pub outputs_fill : (ts : List PlainTensor) → list_all (fills_burst burst) ts ≡ true → All (λ t. FillBurst burst t) (output_types ts)
+  outputs_fill [] all = All-nil (λ (t : IntType). FillBurst burst t)
+  outputs_fill (t ∷ ts) all =
+      let both = and_parts (fills_burst burst t) (list_all (fills_burst burst) ts) all in
+      let rest = outputs_fill ts both.1 in
+      elim t.role as (λ r. (elim r [
+        | Local ↦ true
+        | Input ↦ burst % (8 * cell_size_of t.ty) == 0
+        | Output ↦ burst % (8 * cell_size_of t.ty) == 0
+      ]) ≡ true → All (λ u. FillBurst burst u) (elim r [ Input ↦ output_types ts | Local ↦ output_types ts | Output ↦ t.ty ∷ output_types ts ])) [
+        | Input ↦ λ fits. rest
+        | Local ↦ λ fits. rest
+        | Output ↦ λ fits. All-cons (λ (u : IntType). FillBurst burst u) t.ty (output_types ts) (burst_of burst t.ty least most fits) rest
+      ] both.0
+
+-- how many cells a line has, from what is looked at of the extents
+pub run_empty : (ns xs : List ℕ) → xs ≡ ns → length xs < 1 → 1 ≡ first_extent ns
+run_empty ns [] e lt = ap first_extent e
+run_empty ns (x ∷ xs) e lt = absurd (omega arith)
+
+pub run_some : (ns xs : List ℕ) → xs ≡ ns → 1 ≤ length xs → slice_index_or xs 0 0 ≡ first_extent ns
+run_some ns [] e le = absurd (omega arith)
+run_some ns (x ∷ xs) e le = ap first_extent e

@@ -1,12 +1,12 @@
 -- What isn't printed.
-use Rattle.std.proofs.Common.{◌≡◌, ◌≢◌, ℕ, Bool, true, List, [], ◌++◌, Option, Some, None, refl, sym, ap, subst, ◌∙◌, append-nil, inl}
+use Rattle.std.proofs.Common.{◌≡◌, ◌≢◌, ℕ, Bool, true, List, ◌++◌, Option, Some, None, refl, sym, ap, subst, ◌∙◌, append-nil, inl}
 use Rattle.soda_io.specs.Store.{Store}
 use Rattle.soda_ir.specs.Program.{PlainProgram}
 use Rattle.job_files.specs.Contents.{Holding}
 use Rattle.job_files.specs.Files.{JobFile}
 use Rattle.command_words.specs.declared.mode.Mode.{Mode}
-use Rattle.command_words.specs.declared.mode.Mode.TheVariants.{Check, Plain}
-use Rattle.command_words.specs.Orders.{Asked, HasForm, parts_of}
+use Rattle.command_words.specs.declared.mode.Mode.TheVariants.{Plain}
+use Rattle.command_words.specs.Orders.{Asked}
 use Rattle.sodac_cli.specs.declared.status.Status.{Status}
 use Rattle.sodac_cli.specs.declared.status.Status.TheVariants as is
 use Rattle.sodac_cli.specs.Correct.{Runs}
@@ -21,6 +21,7 @@ prints_nothing h None old s not_ok quiet = refl
 prints_nothing h (Some a) old is.Ok not_ok quiet = absurd (not_ok refl)
 prints_nothing h (Some a) old is.Usage not_ok quiet = refl
 prints_nothing h (Some a) old (is.Program r) not_ok quiet = refl
+prints_nothing h (Some a) old (is.Array fault) not_ok quiet = refl
 prints_nothing h (Some a) old (is.FileFault role) not_ok quiet = refl
 prints_nothing h (Some a) old is.OutFault not_ok quiet = absurd (quiet refl)
 prints_nothing h (Some a) old is.Memory not_ok quiet = inl refl
@@ -31,6 +32,7 @@ pub no_out_fault : (n : ℕ) (s : Status) → s ≢ is.OutFault → OutFaults n 
 no_out_fault n is.Ok quiet = refl
 no_out_fault n is.Usage quiet = refl
 no_out_fault n (is.Program r) quiet = refl
+no_out_fault n (is.Array fault) quiet = refl
 no_out_fault n (is.FileFault role) quiet = refl
 no_out_fault n is.OutFault quiet = absurd (quiet refl)
 no_out_fault n is.Memory quiet = tt
@@ -53,10 +55,3 @@ module _ (first : ℕ) (begun : Store) (a : Asked) (given : ℕ) (now : Store) (
         all = sym (append-nil old) ∙ ap (λ (m : Mode). old ++ printed m has.0) (sym mode);
       }
   plain_prints s r quiet = prints_nothing begun.bytes (Some a) old s (λ e. absurd (cc)) quiet
-
--- a job of the mode `check` has no names of arrays
-pub no_names : (m : Mode) (a : Asked) → m ≡ Check → HasForm m (parts_of a) → a.names ≡ []
-no_names m a check form =
-    let P : Mode → Type 0 = λ x. HasForm x (parts_of a) in
-    let form_is : HasForm Check (parts_of a) = subst P check form in
-    ap (λ n. n.names) form_is.1

@@ -1,6 +1,5 @@
 -- A run that asks for no file.
-use Rattle.std.proofs.Common.{◌≡◌, ◌≢◌, ℕ, Bool, true, false, not, ◌&&◌, List, [], Option, Some, None, refl, sym, ap, subst, arith, inl}
-use Rattle.std.specs.Option.{is_none}
+use Rattle.std.proofs.Common.{◌≡◌, ◌≢◌, ℕ, Bool, true, false, not, ◌&&◌, [], Option, Some, None, refl, sym, ap, subst, arith, inl}
 use Rattle.soda_io.specs.Store.{Store}
 use Rattle.job_files.specs.Contents.{Holding}
 use Rattle.job_files.proofs.CallerLemmas.{begin, created_names, holds_none}
@@ -9,13 +8,18 @@ use Rattle.sodac_cli.specs.declared.status.Status.{Status}
 use Rattle.sodac_cli.specs.declared.status.Status.TheVariants as is
 use Rattle.sodac_cli.specs.Correct.{Runs}
 use Rattle.sodac_cli.specs.Due.{DueFor, DueIf, MayAskFor, MayAskIf, asks_none}
-use Rattle.sodac_cli.specs.Endings.{AsksBy, Ending, due, ending_of}
+use Rattle.sodac_cli.specs.Endings.{AsksBy, Ending, ReadsFewFor, due, ending_of}
 use Rattle.sodac_cli.specs.Outputs.{AreOutputs, Leaves}
 use Rattle.sodac_cli.specs.Work.{is_built, is_built_mode}
+use Rattle.sodac_cli.proofs.Few.{few_none}
 
 may_none : (h : Holding) (asked : Option Asked) → MayAskFor h asked []
 may_none h None = refl
 may_none h (Some a) = elim (is_built a) as (λ b. MayAskIf b h a []) [ true ↦ asks_none refl | false ↦ refl ]
+
+few : (asked : Option Asked) → ReadsFewFor asked (λ n. 0)
+few None = tt
+few (Some a) = few_none a
 
 module _ (first : ℕ) (begun : Store) (asked : Option Asked) where
   untouched : Leaves begun begun asked
@@ -33,7 +37,7 @@ module _ (first : ℕ) (begun : Store) (asked : Option Asked) where
         journal = subst P (sym ending) (record {
           files = [];
           due = d;
-          asks = record { ended = 0; places = λ n. 0; progress = begin first begun; few = omega arith; all = λ e. refl; some = λ ne. omega arith };
+          asks = record { ended = 0; places = λ n. 0; progress = begin first begun; few = few asked; all = λ e. refl; program = λ ne. omega arith; texts = λ ne also. omega arith };
         });
         files = untouched;
         delivered = λ e. absurd (not_ok e);
@@ -53,7 +57,7 @@ module _ (first : ℕ) (begun : Store) (asked : Option Asked) where
       ended = 0;
       places = λ n. 0;
       progress = begin first begun;
-      few = omega arith;
+      few = few asked;
     });
     files = untouched;
     delivered = λ e. absurd (cc);
@@ -67,4 +71,4 @@ unbuilt_runs first begun a unbuilt =
 
 -- the mode isn't
 pub unbuilt_mode : (a : Asked) → is_built_mode a.mode ≡ false → is_built a ≡ false
-unbuilt_mode a e = ap (λ b. b && (not a.share && (not a.raw && (not a.trace && (is_none a.params && is_none a.stall))))) e
+unbuilt_mode a e = ap (λ b. b && not a.share) e

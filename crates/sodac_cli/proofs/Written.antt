@@ -1,62 +1,62 @@
--- What ends a run that writes its output.
-use Rattle.std.proofs.Common.{◌≡◌, ◌<◌, ◌≤◌, ℕ, ◌+◌, Bool, true, false, List, [], ◌∷◌, ◌++◌, length, map, take, Option, Some, Result, Ok, Err, OnOk, ℤ, refl, sym, ap, subst, ◌∙◌, inr, arith, take_all}
-use Rattle.std.proofs.lemmas.List.Elements.{All-head}
+-- What ends a run that writes its outputs, and how it goes on.
+use Rattle.std.proofs.Common.{◌≡◌, ◌<◌, ℕ, ◌+◌, Bool, true, false, List, [], ◌∷◌, ◌++◌, length, map, take, get_or, slice_index_or, Option, Some, None, Result, Err, ℤ, refl, sym, ap, subst, ◌∙◌, inl, inr, arith, take_all, add-one}
 use Rattle.std.proofs.lemmas.Option.{same_Some}
 use Rattle.soda_io.specs.declared.error.IoErr.{IoErr}
 use Rattle.soda_io.specs.declared.error.IoErr.TheVariants as io
 use Rattle.soda_io.specs.declared.role.FileRole.TheVariants.{Output}
 use Rattle.soda_io.specs.Store.{Store}
+use Rattle.soda_words.specs.IntType.{IntType, int32}
 use Rattle.soda_words.specs.Limits.{most_text}
-use Rattle.soda_ir.specs.Program.{PlainProgram}
+use Rattle.soda_ir.specs.Program.{PlainParam, PlainProgram, input_types}
+use Rattle.soda_ir.specs.Valid.{output_types}
+use Rattle.soda_eval.specs.Runs.{cells_at, defined_arrays}
 use Rattle.soda_parse.specs.Text.{Accepts}
-use Rattle.job_parts.proofs.CallerLemmas.{cells_again}
-use Rattle.job_parts.specs.Cells.{AreCells, all_cells_at}
+use Rattle.array_bytes.specs.Written.{array_bytes}
+use Rattle.param_lines.specs.Params.{GivesParams}
+use Rattle.job_arrays.specs.declared.layout.Layout.{Layout}
 use Rattle.job_files.specs.Contents.{Holding, Holds, PutsTo, emptied}
 use Rattle.job_files.specs.Progress.{Progress}
 use Rattle.job_files.specs.Steps.{WritesTo}
-use Rattle.job_files.proofs.CallerLemmas.{id_name}
+use Rattle.job_files.proofs.CallerLemmas.{id_name, id_opened}
 use Rattle.command_words.specs.Orders.{Asked}
 use Rattle.sodac_cli.specs.declared.status.Status.TheVariants as is
 use Rattle.sodac_cli.specs.Correct.{Runs}
 use Rattle.sodac_cli.specs.Due.{done}
-use Rattle.sodac_cli.specs.Machine.Steps.{IsGathered}
+use Rattle.sodac_cli.specs.Machine.Steps.{IsWriting, WritesOutput, filled}
 use Rattle.sodac_cli.specs.Outputs.{AreOutputs, ArePrefixes, Delivers, DeliversIf, HoldTexts}
-use Rattle.sodac_cli.specs.Work.{HasInputs, HasProgram, HoldCells, HoldsCells, files_of, input_count, input_names, output_names, output_texts, program_of, writes_arrays}
+use Rattle.sodac_cli.specs.Work.{HasInputs, HasParams, HasParamsBy, HasProgram, files_of, form_of, input_count, input_names, output_count, output_names, output_texts, rows_of, run_of, text_count, writes_arrays}
 use Rattle.sodac_cli.proofs.AllAsked.{all_due, all_fault, all_memory}
-use Rattle.sodac_cli.proofs.Counted.{has_output, one_input, output, output_file, output_there, outputs_are, three_files, two_opened}
+use Rattle.sodac_cli.proofs.ArrayLaws.{arrays_one}
+use Rattle.sodac_cli.proofs.Emptied.{all_empty, emptied_names}
+use Rattle.sodac_cli.proofs.Filled.{About, about, filled_names, filled_none, filled_prefixes, text_at, texts_held, texts_many}
+use Rattle.sodac_cli.proofs.Numbered.{file_of_output, files_length, files_opened, output_file, output_names_length, role_at}
 
--- names hold one list of arrays at most
-cells_one : (h : Holding) (n : ℕ) (name : List ℕ) (xs ys : List ℤ) → HoldsCells h n name xs → HoldsCells h n name ys → xs ≡ ys
-cells_one h n name xs ys x y =
-    let same : x.bytes ≡ y.bytes = same_Some x.bytes y.bytes (sym x.there ∙ y.there) in
-    same_Some xs ys (sym (cells_again n x.bytes xs x.good) ∙ ap (all_cells_at n) same ∙ cells_again n y.bytes ys y.good)
-
-arrays_one : (h : Holding) (n : ℕ) (names : List (List ℕ)) (xs ys : List (List ℤ)) → HoldCells h n names xs → HoldCells h n names ys → xs ≡ ys
-arrays_one h n [] [] [] a b = refl
-arrays_one h n [] [] (y ∷ ys) a b = absurd b
-arrays_one h n [] (x ∷ xs) ys a b = absurd a
-arrays_one h n (name ∷ names) [] ys a b = absurd a
-arrays_one h n (name ∷ names) (x ∷ xs) [] a b = absurd b
-arrays_one h n (name ∷ names) (x ∷ xs) (y ∷ ys) a b =
-    let first : x ≡ y = cells_one h n name x y a.0 b.0 in
-    let rest : xs ≡ ys = arrays_one h n names xs ys a.1 b.1 in
-    cc
-
--- what is delivered of the one program and its one list of arrays is of all
+-- what is delivered of the one program, its one list of values and its one list of arrays is of all
 module _ (texts_one : (most : ℕ) (bytes : List ℕ) (p q : PlainProgram) → Accepts most bytes p → Accepts most bytes q → p ≡ q)
-    (old new : Holding) (a : Asked) (p : PlainProgram) (program : HasProgram old a p) (arrays : List (List ℤ)) (inputs : HasInputs old a p arrays)
-    (texts : HoldTexts new (output_names a p) (output_texts a p arrays)) where
+    (values_one : (ps : List PlainParam) (bytes : List ℕ) (v w : List ℤ) → GivesParams ps bytes v → GivesParams ps bytes w → v ≡ w)
+    (old new : Holding) (a : Asked) (p : PlainProgram) (program : HasProgram old a p) (values : List ℤ) (params : HasParams old a p values)
+    (arrays : List (List ℤ)) (inputs : HasInputs old a p arrays) (texts : HoldTexts new (output_names a p) (output_texts a p values arrays)) where
   program_one : (q : PlainProgram) → HasProgram old a q → p ≡ q
   program_one q has =
       let P : List ℕ → Type 0 = λ bytes. Accepts most_text bytes q in
       texts_one most_text program.text p q program.accepted (subst P (same_Some has.text program.text (sym has.there ∙ program.there)) has.accepted)
 
-  of_all : (q : PlainProgram) → HasProgram old a q → (others : List (List ℤ)) → HasInputs old a q others
-      → HoldTexts new (output_names a q) (output_texts a q others)
+  params_one : (o : Option (List ℕ)) (v w : List ℤ) → HasParamsBy o old p v → HasParamsBy o old p w → v ≡ w
+  params_one None v w x y = x.1 ∙ sym y.1
+  params_one (Some name) v w x y =
+      let P : List ℕ → Type 0 = λ bytes. GivesParams p.params bytes w in
+      values_one p.params x.0 v w x.2 (subst P (same_Some y.0 x.0 (sym y.1 ∙ x.1)) y.2)
+
+  of_all : (q : PlainProgram) → HasProgram old a q → (v : List ℤ) → HasParams old a q v → (others : List (List ℤ)) → HasInputs old a q others
+      → HoldTexts new (output_names a q) (output_texts a q v others)
   of_all q has =
-      let P : PlainProgram → Type 0 = λ x. (others : List (List ℤ)) → HasInputs old a x others → HoldTexts new (output_names a x) (output_texts a x others) in
-      let Q : List (List ℤ) → Type 0 = λ xs. HoldTexts new (output_names a p) (output_texts a p xs) in
-      subst P (program_one q has) (λ others all. subst Q (arrays_one old _ (input_names a p) arrays others inputs all) texts)
+      let P : PlainProgram → Type 0 = λ x. (v : List ℤ) → HasParams old a x v → (others : List (List ℤ)) → HasInputs old a x others
+      → HoldTexts new (output_names a x) (output_texts a x v others) in
+      let Q : List ℤ → Type 0 = λ v. HoldTexts new (output_names a p) (output_texts a p v arrays) in
+      subst P (program_one q has) (λ v given others all.
+      let R : List (List ℤ) → Type 0 = λ xs. HoldTexts new (output_names a p) (output_texts a p v xs) in
+      subst R (arrays_one old (form_of a) (cells_at p (rows_of a)) (input_types p.tensors) (input_names a p) arrays others inputs all)
+      (subst Q (params_one a.params values v params given) texts))
 
   by_mode : (writes : Bool) → DeliversIf writes old new a
   by_mode true = of_all
@@ -65,64 +65,143 @@ module _ (texts_one : (most : ℕ) (bytes : List ℕ) (p q : PlainProgram) → A
   delivers : Delivers old new (Some a)
   delivers = by_mode (writes_arrays a.mode)
 
-module _ (first : ℕ) (begun : Store) (a : Asked) (p : PlainProgram) (before : ℕ) (old : Store) (arrays : List (List ℤ))
-    (g : IsGathered first begun a p before old arrays) where
-  pub output_next : 2 < length (files_of a p)
-  output_next = omega (arith, three_files a p g.judged.pass)
+-- some of the outputs are written
+module _ (first : ℕ) (begun : Store) (a : Asked) (p : PlainProgram) (values : List ℤ) (inputs : List (List ℤ)) (count given : ℕ) (now : Store)
+    (w : IsWriting first begun a p given now values inputs count) (as_many : length (defined_arrays p (rows_of a) values inputs) ≡ output_count p) where
+  abbrev names : List (List ℕ)
+  names = output_names a p
 
-  abbrev pub output_name : List ℕ
-  output_name = output a p g.judged.pass
+  abbrev texts : List (List ℕ)
+  texts = output_texts a p values inputs
 
-  pub named_output : (id : ℕ) → id ≡ first + 2 → old.name id ≡ output_name
-  named_output id at =
-      ap old.name at
-      ∙ id_name first begun (files_of a p) (1 + input_count p) g.asked.places before old g.asked.progress 2 (output_file output_name) (output_there a p g.judged.pass)
+  pub same_length : length names ≡ length texts
+  same_length = omega (
+    arith,
+    output_names_length a p w.judged.pass.count,
+    texts_many (form_of a) (run_of p) (output_types p.tensors) (defined_arrays p (rows_of a) values inputs) as_many,
+  )
 
-  pub empty_output : Holds begun.bytes old.bytes ((output_name, []) ∷ [])
+  pub are_prefixes : (outputs : List (List ℕ × List ℕ)) → ArePrefixes outputs texts → AreOutputs begun.bytes (Some a) outputs
+  are_prefixes outputs prefixes =
+      inr (record { plain = p; program = w.judged.program; prefixes = inr (values, w.params, inputs, w.inputs, prefixes) })
+
+  are : AreOutputs begun.bytes (Some a) (filled names texts count)
+  are = are_prefixes (filled names texts count) (filled_prefixes names texts count (omega (arith, same_length)))
+
+  -- all of them are
+  pub all_written : (texts_one : (most : ℕ) (bytes : List ℕ) (p q : PlainProgram) → Accepts most bytes p → Accepts most bytes q → p ≡ q)
+      → (values_one : (ps : List PlainParam) (bytes : List ℕ) (v w : List ℤ) → GivesParams ps bytes v → GivesParams ps bytes w → v ≡ w)
+      → count ≡ output_count p → Runs first begun (Some a) given now is.Ok
+  all_written texts_one values_one all =
+      let P : ℕ → Type 0 = λ n. Holds begun.bytes now.bytes (filled names texts n) in
+      let whole : Holds begun.bytes now.bytes (filled names texts (length names)) =
+      subst P (all ∙ sym (output_names_length a p w.judged.pass.count)) w.holds in
+      all_due first begun a p values w.judged w.params given now (filled names texts count) (filled_names names texts count) w.holds are
+      (text_count a + input_count p) w.asked.places w.asked.few w.asked.progress is.Ok refl (omega arith)
+      (λ e. sym (files_opened a p w.judged.pass.count)) (done inputs w.inputs)
+      (λ e. delivers texts_one values_one begun.bytes now.bytes a p w.judged.program values w.params inputs w.inputs
+      (texts_held now.bytes names texts same_length whole.own))
+
+-- memory is refused before any of them is
+pub unwritten_memory : (first : ℕ) (begun : Store) (a : Asked) (p : PlainProgram) (values : List ℤ) (inputs : List (List ℤ)) (given : ℕ) (now : Store)
+    → IsWriting first begun a p given now values inputs 0 → Runs first begun (Some a) given now is.Memory
+unwritten_memory first begun a p values inputs given now w =
+    let R : List (List ℕ × List ℕ) → Type 0 = λ os. Holds begun.bytes now.bytes os in
+    let none = filled_none (output_names a p) (output_texts a p values inputs) in
+    all_memory first begun a p values w.judged w.params given now (map emptied (output_names a p)) (emptied_names (output_names a p)) (subst R none w.holds)
+    (inr (record { plain = p; program = w.judged.program; prefixes = inl (all_empty (output_names a p)) })) (text_count a + input_count p)
+    w.asked.places w.asked.few w.asked.progress
+
+-- an output is to be written
+module _ (first : ℕ) (begun : Store) (a : Asked) (p : PlainProgram) (values : List ℤ) (inputs : List (List ℤ)) (number id : ℕ) (ty : IntType) (layout : Layout)
+    (cells : List ℤ) (before : ℕ) (old : Store) (w : WritesOutput first begun a p before old values inputs number id ty layout cells) where
+  abbrev g : IsWriting first begun a p before old values inputs number
+  g = w.writing
+
+  abbrev pub name : List ℕ
+  name = get_or (output_names a p) number []
+
+  abbrev text : List ℕ
+  text = get_or (output_texts a p values inputs) number []
+
+  lengths : length (output_names a p) ≡ length (output_texts a p values inputs)
+  lengths = same_length first begun a p values inputs number before old g w.as_many
+
+  pub here : About (output_names a p) (output_texts a p values inputs) number name text
+  here = about (output_names a p) (output_texts a p values inputs) number (omega (arith, w.within, output_names_length a p g.judged.pass.count)) (omega (arith, lengths))
+
+  pub output_next : text_count a + input_count p + number < length (files_of a p)
+  output_next = omega (arith, w.within, files_length a p g.judged.pass.count)
+
+  pub output_created : old.opened id ≡ false
+  output_created =
+      ap (λ (k : ℕ). old.opened k) w.id_is
+      ∙ id_opened first begun (files_of a p) (text_count a + input_count p) g.asked.places before old g.asked.progress (text_count a + input_count p + number)
+      (output_file number name) (file_of_output a p g.judged.pass.count number w.within)
+
+  pub named_output : old.name id ≡ name
+  named_output =
+      ap old.name w.id_is
+      ∙ id_name first begun (files_of a p) (text_count a + input_count p) g.asked.places before old g.asked.progress (text_count a + input_count p + number)
+      (output_file number name) (file_of_output a p g.judged.pass.count number w.within)
+
+  pub empty_output : Holds begun.bytes old.bytes (here.front ++ (name, []) ∷ here.back)
   empty_output =
-      let P : List (List ℕ) → Type 0 = λ ns. Holds begun.bytes old.bytes (map emptied ns) in
-      subst P (outputs_are a p g.judged.pass) g.holds
+      let P : List (List ℕ × List ℕ) → Type 0 = λ os. Holds begun.bytes old.bytes os in
+      subst P here.before g.holds
+
+  -- the bytes that are written
+  text_is : array_bytes layout.form ty layout.run cells ≡ text
+  text_is =
+      ap (λ (l : Layout). array_bytes l.form ty l.run cells) w.layout_is
+      ∙ ap (λ (t : IntType). array_bytes (form_of a) t (run_of p) cells) w.type_is
+      ∙ ap (λ (cs : List ℤ). array_bytes (form_of a) (slice_index_or (output_types p.tensors) number int32) (run_of p) cs) w.cells_are
+      ∙ sym (text_at (form_of a) (run_of p) (output_types p.tensors) (defined_arrays p (rows_of a) values inputs) number w.within w.as_many)
 
   -- what the call that writes it did
-  module _ (given : ℕ) (now : Store) (ids : given ≡ before) (text : List ℕ) (texts : text ∷ [] ≡ output_texts a p arrays)
-      (result : Result (Unit {0}) IoErr) (puts : PutsTo begun.bytes now.bytes [] output_name [] [] text result) where
+  module _ (given : ℕ) (now : Store) (ids : given ≡ before) (result : Result (Unit {0}) IoErr)
+      (puts : PutsTo begun.bytes now.bytes here.front name [] here.back (array_bytes layout.form ty layout.run cells) result) where
     abbrev pub Writing : Result (Unit {0}) IoErr → Type 0
-    Writing x = WritesTo first begun (files_of a p) (1 + input_count p) g.asked.places given now 2 x
+    Writing x = WritesTo first begun (files_of a p) (text_count a + input_count p) g.asked.places given now (text_count a + input_count p + number) x
 
     abbrev outputs : List (List ℕ × List ℕ)
-    outputs = (output_name, puts.now) ∷ []
+    outputs = here.front ++ (name, puts.now) ∷ here.back
 
-    are : AreOutputs begun.bytes (Some a) outputs
-    are =
-        let P : List (List ℕ) → Type 0 = λ ts. ArePrefixes outputs ts in
-        inr (record { plain = p; program = g.judged.program; prefixes = inr (arrays, g.inputs, subst P texts ((puts.puts.count, puts.puts.put), tt)) })
+    put : puts.now ≡ take puts.puts.count text
+    put = puts.puts.put ∙ ap (take puts.puts.count) text_is
 
-    pub write_fault : (e : IoErr) → e ≡ io.Failed → Writing (Err e) → Runs first begun (Some a) given now (is.FileFault (Output 0))
+    prefixes : AreOutputs begun.bytes (Some a) outputs
+    prefixes =
+        let P : List ℕ → Type 0 = λ bytes. ArePrefixes (here.front ++ (name, bytes) ∷ here.back) (output_texts a p values inputs) in
+        are_prefixes first begun a p values inputs number before old g w.as_many outputs (subst P (sym put) (here.prefixes puts.puts.count))
+
+    pub write_fault : (e : IoErr) → e ≡ io.Failed → Writing (Err e) → Runs first begun (Some a) given now (is.FileFault (Output number))
     write_fault e same x =
         let P : IoErr → Type 0 = λ y. Writing (Err y) in
-        all_fault first begun a p g.judged given now outputs (sym (outputs_are a p g.judged.pass)) puts.holds are (1 + input_count p) g.asked.places
-        g.asked.few (Output 0) 2 (has_output a p g.judged.pass) (ids ∙ g.asked.progress.well.count) (subst P same x)
+        all_fault first begun a p values g.judged g.params given now outputs (here.named puts.now) puts.holds prefixes (text_count a + input_count p)
+        g.asked.places g.asked.few (Output number) (text_count a + input_count p + number)
+        (role_at (files_of a p) (text_count a + input_count p + number) (output_file number name) (file_of_output a p g.judged.pass.count number w.within))
+        (ids ∙ g.asked.progress.well.count) (subst P same x)
 
     pub write_memory : (e : IoErr) → e ≡ io.Memory → Writing (Err e) → Runs first begun (Some a) given now is.Memory
     write_memory e same x =
         let P : IoErr → Type 0 = λ y. Writing (Err y) in
-        all_memory first begun a p g.judged given now outputs (sym (outputs_are a p g.judged.pass)) puts.holds are (1 + input_count p) g.asked.places
-        g.asked.few (subst P same x)
+        all_memory first begun a p values g.judged g.params given now outputs (here.named puts.now) puts.holds prefixes (text_count a + input_count p)
+        g.asked.places g.asked.few (subst P same x)
 
-    -- all of the text was taken
-    whole_text : puts.puts.count ≡ length text → HoldTexts now.bytes (output_names a p) (output_texts a p arrays)
-    whole_text all =
-        let P : List (List ℕ) → Type 0 = λ ns. HoldTexts now.bytes ns (output_texts a p arrays) in
-        let Q : List (List ℕ) → Type 0 = λ ts. HoldTexts now.bytes (output_name ∷ []) ts in
-        let own = All-head (λ (o : List ℕ × List ℕ). now.bytes o.0 ≡ Some o.1) (output_name, puts.now) [] puts.holds.own in
-        let taken : puts.now ≡ text = puts.puts.put ∙ take_all puts.puts.count text (omega arith) in
-        subst P (sym (outputs_are a p g.judged.pass)) (subst Q texts (own ∙ ap (λ (bs : List ℕ). Some bs) taken, tt))
-
-    pub wrote : (texts_one : (most : ℕ) (bytes : List ℕ) (p q : PlainProgram) → Accepts most bytes p → Accepts most bytes q → p ≡ q)
-        → puts.puts.count ≡ length text → Progress first begun (files_of a p) (1 + input_count p) g.asked.places given now
-        → Runs first begun (Some a) given now is.Ok
-    wrote texts_one all progress =
-        all_due first begun a p g.judged given now outputs (sym (outputs_are a p g.judged.pass)) puts.holds are (1 + input_count p) g.asked.places
-        g.asked.few progress is.Ok refl (omega arith) (λ e. ap (λ n. 1 + n) (one_input a p g.judged.pass) ∙ sym (two_opened a p g.judged.pass))
-        (done arrays g.inputs)
-        (λ e. delivers texts_one begun.bytes now.bytes a p g.judged.program arrays g.inputs (whole_text all))
+    -- all of its text was taken
+    pub wrote : puts.puts.count ≡ length (array_bytes layout.form ty layout.run cells)
+        → Progress first begun (files_of a p) (text_count a + input_count p) g.asked.places given now
+        → IsWriting first begun a p given now values inputs (number + 1)
+    wrote all progress =
+        let whole : puts.now ≡ text = put ∙ take_all puts.puts.count text (omega (arith, all, ap (λ (bs : List ℕ). length bs) text_is)) in
+        let P : List ℕ → Type 0 = λ bytes. Holds begun.bytes now.bytes (here.front ++ (name, bytes) ∷ here.back) in
+        let Q : List (List ℕ × List ℕ) → Type 0 = λ os. Holds begun.bytes now.bytes os in
+        let R : ℕ → Type 0 = λ n. Holds begun.bytes now.bytes (filled (output_names a p) (output_texts a p values inputs) n) in
+        record {
+          judged = g.judged;
+          params = g.params;
+          inputs = g.inputs;
+          asked = record { places = g.asked.places; few = g.asked.few; progress = progress };
+          holds = subst R (sym (add-one number)) (subst Q (sym here.after) (subst P whole puts.holds));
+        }

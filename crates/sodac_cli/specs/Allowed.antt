@@ -2,42 +2,54 @@
 use Rattle.std.specs.Prelude.{◌≡◌, ◌⊎◌, Bool, true, false, not, ◌&&◌, Option, Some, None}
 use Rattle.soda_io.specs.declared.role.FileRole.{FileRole}
 use Rattle.soda_io.specs.declared.role.FileRole.TheVariants.{Program, Modules, Params, Stall, Input, Output}
+use Rattle.job_arrays.specs.Arrays.{IsOfBytes}
 use Rattle.command_words.specs.declared.mode.Mode.{Mode}
 use Rattle.command_words.specs.declared.mode.Mode.TheVariants.{Check, Plain, Plan, Compile, Sim, Selftest}
 use Rattle.command_words.specs.Orders.{Asked}
+use Rattle.sodac_cli.specs.declared.status.ArrayFault.{ArrayFault}
+use Rattle.sodac_cli.specs.declared.status.ArrayFault.TheVariants as of
 use Rattle.sodac_cli.specs.declared.status.Status.{Status}
 use Rattle.sodac_cli.specs.declared.status.Status.TheVariants as is
 use Rattle.sodac_cli.specs.Printed.{prints}
 use Rattle.sodac_cli.specs.Work.{is_built}
 
--- a role that a file of `plain` has so far
-abbrev pub IsOfArrays : FileRole → Type 0
-IsOfArrays Program = Unit {0}
-IsOfArrays (Input number) = Unit {0}
-IsOfArrays (Output number) = Unit {0}
-IsOfArrays Modules = ⊥
-IsOfArrays Params = ⊥
-IsOfArrays Stall = ⊥
+-- a role that a file of `plain` has
+abbrev pub IsOfPlain : FileRole → Type 0
+IsOfPlain Program = Unit {0}
+IsOfPlain Params = Unit {0}
+IsOfPlain (Input number) = Unit {0}
+IsOfPlain (Output number) = Unit {0}
+IsOfPlain Modules = ⊥
+IsOfPlain Stall = ⊥
+
+-- what can be wrong with what the files of `plain` hold; a call that failed, or want of memory, isn't told as a fault
+-- of the bytes
+abbrev pub IsArrayFault : ArrayFault → Type 0
+IsArrayFault (of.Cell number fault) = IsOfBytes fault
+IsArrayFault (of.Params line) = Unit {0}
+IsArrayFault (of.Stall line) = ⊥
 
 -- what `check` can end with: it is built for every program, and asks for the program's file alone
 abbrev pub AllowsCheck : Status → Type 0
 AllowsCheck is.Ok = Unit {0}
 AllowsCheck is.Usage = ⊥
 AllowsCheck (is.Program r) = Unit {0}
+AllowsCheck (is.Array fault) = ⊥
 AllowsCheck (is.FileFault role) = role ≡ Program
 AllowsCheck is.OutFault = Unit {0}
 AllowsCheck is.Memory = Unit {0}
 AllowsCheck is.NotYetBuilt = ⊥
 
--- what `plain` can end with: it prints nothing that could fail
+-- what `plain` can end with: it is built for every program, and prints nothing that could fail
 abbrev pub AllowsPlain : Status → Type 0
 AllowsPlain is.Ok = Unit {0}
 AllowsPlain is.Usage = Unit {0}
 AllowsPlain (is.Program r) = Unit {0}
-AllowsPlain (is.FileFault role) = IsOfArrays role
+AllowsPlain (is.Array fault) = IsArrayFault fault
+AllowsPlain (is.FileFault role) = IsOfPlain role
 AllowsPlain is.OutFault = ⊥
 AllowsPlain is.Memory = Unit {0}
-AllowsPlain is.NotYetBuilt = Unit {0}
+AllowsPlain is.NotYetBuilt = ⊥
 
 -- what a mode that is built can end with
 abbrev pub AllowsMode : Mode → Status → Type 0

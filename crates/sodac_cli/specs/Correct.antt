@@ -6,21 +6,17 @@
 -- - printed: what `out` took;
 -- - line: what `err` took;
 -- - faults: the counts of the files and of `out`.
-use Rattle.std.specs.Prelude.{◌≡◌, ◌⊎◌, ℕ, true, List, Option, Some, None, String}
+use Rattle.std.specs.Prelude.{◌≡◌, ◌⊎◌, ℕ, List, Option, String}
 use Rattle.std.specs.Global.{Global}
-use Rattle.soda_io.specs.Cause.{Rose}
 use Rattle.soda_io.specs.Store.{Store}
 use Rattle.job_files.specs.Contents.{Holding}
 use Rattle.job_files.specs.Files.{JobFile}
 use Rattle.command_words.specs.Orders.{Asked}
 use Rattle.sodac_cli.specs.declared.status.Status.{Status}
 use Rattle.sodac_cli.specs.declared.status.Status.TheVariants as is
-use Rattle.sodac_cli.specs.Counts.{FileFaults, OutFaults}
 use Rattle.sodac_cli.specs.Due.{Due, DueFor}
 use Rattle.sodac_cli.specs.Endings.{Asks, Ending, ending_of, due, file_fault, memory, out_fault}
-use Rattle.sodac_cli.specs.Lines.{Reports}
 use Rattle.sodac_cli.specs.Outputs.{Delivers, Leaves}
-use Rattle.sodac_cli.specs.Printed.{Prints, prints}
 use Rattle.sodac_cli.specs.Work.{asked_of}
 
 -- the status is due; a fault of `out` comes only where the job is else done

@@ -9,7 +9,7 @@ use Rattle.soda_words.specs.Tokens.{or_else}
 use Rattle.soda_ir.specs.Program.{PlainProgram}
 use Rattle.soda_ir.specs.declared.limit.LimitKind.TheVariants.{Cells, Total}
 use Rattle.soda_eval.specs.Runs.{cells_at}
-use Rattle.soda_eval.specs.Sums.{is_sum_program}
+use Rattle.array_bytes.specs.declared.fault.CellFault.{CellFault}
 use Rattle.soda_parse.specs.Text.{Refuses}
 use Rattle.soda_parse.specs.declared.refusal.Refusal.{Refusal}
 use Rattle.soda_parse.specs.declared.refusal.Refusal.TheVariants.{Limit}
@@ -18,9 +18,10 @@ use Rattle.job_files.specs.Files.{JobFile}
 use Rattle.command_words.specs.declared.mode.Mode.{Mode}
 use Rattle.command_words.specs.declared.mode.Mode.TheVariants.{Check, Plain, Plan, Compile, Sim, Selftest}
 use Rattle.command_words.specs.Orders.{Asked}
+use Rattle.sodac_cli.specs.declared.status.ArrayFault.TheVariants as of
 use Rattle.sodac_cli.specs.declared.status.Status.{Status}
 use Rattle.sodac_cli.specs.declared.status.Status.TheVariants as is
-use Rattle.sodac_cli.specs.Work.{HasInputs, HasProgram, asked_of, files_of, input_count, input_names, is_built, output_count, output_names, program_file, program_of, rows_of}
+use Rattle.sodac_cli.specs.Work.{HasFault, HasInputs, HasParams, HasProgram, RefusesParams, asked_of, files_of, input_count, input_names, is_built, output_count, output_names, program_file, program_of, rows_of, text_names, texts_of, writes_arrays}
 
 -- none of these names stands before it, among `before` and the names themselves
 abbrev pub are_apart : List (List ℕ) → List (List ℕ) → Bool
@@ -30,7 +31,7 @@ are_apart before (name ∷ names) = not (list_any (bytes_eq name) before) && are
 -- there are as many names as inputs and outputs, and no output is named like another file of the job
 abbrev pub names_fit : Asked → PlainProgram → Bool
 names_fit a p = length a.names == input_count p + output_count p
-    && are_apart (program_of a ∷ input_names a p) (output_names a p)
+    && are_apart (text_names a ++ input_names a p) (output_names a p)
 
 -- how many cells all arrays have together
 abbrev pub total_at : PlainProgram → ℕ → ℕ
@@ -45,19 +46,17 @@ passed_limit p rows =
 -- the steps that judge an accepted program before any array is asked for
 pub data Stage : Type 0 where
   by_names : Stage
-  by_form : Stage
   by_limits : Stage
 
 -- the refusal of a step, if it refuses
 abbrev pub refusal_at : Stage → Asked → PlainProgram → Option Status
 refusal_at by_names a p = if names_fit a p then None else Some is.Usage
-refusal_at by_form a p = if is_sum_program p then None else Some is.NotYetBuilt
 refusal_at by_limits a p = option_map (λ r. is.Program r) (passed_limit p (rows_of a))
 
 -- the steps of a mode, in order; those of modes that aren't built come with them
 abbrev pub stages_of : Mode → List Stage
 stages_of Check = []
-stages_of Plain = by_names ∷ by_form ∷ by_limits ∷ []
+stages_of Plain = by_names ∷ by_limits ∷ []
 stages_of Plan = []
 stages_of Compile = []
 stages_of Sim = []
@@ -72,18 +71,31 @@ first_refusal (stage ∷ stages) a p = or_else (refusal_at stage a p) (first_ref
 abbrev pub refusal_of : Asked → PlainProgram → Option Status
 refusal_of a p = first_refusal (stages_of a.mode) a p
 
--- over good inputs the job is done; where all inputs are there and one of them isn't good, it isn't built yet
+-- over good inputs the job is done; where all inputs are there, the first fault of the first that has one is told
 pub data DueOver (h : Holding) (a : Asked) (p : PlainProgram) : Status → Type 0 where
   done : (arrays : List (List ℤ)) → HasInputs h a p arrays → DueOver h a p is.Ok
-  odd : All (IsThere h) (input_names a p) → ((arrays : List (List ℤ)) → HasInputs h a p arrays → ⊥)
-      → DueOver h a p is.NotYetBuilt
+  faulty : All (IsThere h) (input_names a p) → (number : ℕ) (fault : CellFault) → HasFault h a p number fault
+      → DueOver h a p (is.Array (of.Cell number fault))
 
--- what is due of an accepted program, and the files that are asked for until then
+-- what is due of a program that no step refuses: refused params are told before the inputs are asked for
+pub data DueWith (h : Holding) (a : Asked) (p : PlainProgram) (files : List JobFile) (status : Status) : Type 0 where
+  bad_params : (line : ℕ) → RefusesParams h a p line → files ≡ texts_of a → status ≡ is.Array (of.Params line)
+      → DueWith h a p files status
+  good_params : (values : List ℤ) → HasParams h a p values → files ≡ files_of a p → DueOver h a p status
+      → DueWith h a p files status
+
+-- what is due where no step refuses the program, by whether the mode writes arrays: else it is done
+abbrev pub DueBy : Bool → Holding → Asked → PlainProgram → List JobFile → Status → Type 0
+DueBy true h a p files status = DueWith h a p files status
+DueBy false h a p files status = (files ≡ program_file a ∷ []) × (status ≡ is.Ok)
+
+-- what is due of an accepted program, and the files that are asked for until then, by its refusal
+abbrev pub DueAfter : Option Status → Holding → Asked → PlainProgram → List JobFile → Status → Type 0
+DueAfter None h a p files status = DueBy (writes_arrays a.mode) h a p files status
+DueAfter (Some refusal) h a p files status = (files ≡ program_file a ∷ []) × (status ≡ refusal)
+
 abbrev pub DueBehind : Holding → Asked → PlainProgram → List JobFile → Status → Type 0
-DueBehind h a p files status = elim (refusal_of a p) [
-  | None ↦ (files ≡ files_of a p) × DueOver h a p status
-  | Some refusal ↦ (files ≡ program_file a ∷ []) × (status ≡ refusal)
-]
+DueBehind h a p files status = DueAfter (refusal_of a p) h a p files status
 
 -- what is due of a job that is built, and the files that are asked for until then
 pub data DueOf (h : Holding) (a : Asked) (files : List JobFile) (status : Status) : Type 0 where
@@ -105,13 +117,17 @@ DueFor h (Some a) files status = DueIf (is_built a) h a files status
 abbrev pub Due : Holding → List (String Global) → List JobFile → Status → Type 0
 Due h words files status = DueFor h (asked_of words) files status
 
--- files that a job may have asked for before a fault or want of memory: none, the program's, or once the program is
--- accepted and no step refuses it, the first of all
+-- files that a job may have asked for before a fault or want of memory: none, the program's, or, in a mode that writes
+-- arrays, once the program is accepted and no step refuses it, that of the params too, and once the params are good,
+-- the first of all
 pub data MayAsk (h : Holding) (a : Asked) (made : List JobFile) : Type 0 where
   asks_none : made ≡ [] → MayAsk h a made
   asks_program : made ≡ program_file a ∷ [] → MayAsk h a made
-  asks_arrays : (p : PlainProgram) → HasProgram h a p → refusal_of a p ≡ None → (rest : List JobFile)
-      → files_of a p ≡ made ++ rest → MayAsk h a made
+  asks_params : writes_arrays a.mode ≡ true → (p : PlainProgram) → HasProgram h a p → refusal_of a p ≡ None
+      → made ≡ texts_of a → MayAsk h a made
+  asks_arrays : writes_arrays a.mode ≡ true → (p : PlainProgram) → HasProgram h a p → refusal_of a p ≡ None
+      → (values : List ℤ) → HasParams h a p values → (rest : List JobFile) → files_of a p ≡ made ++ rest
+      → MayAsk h a made
 
 abbrev pub MayAskIf : Bool → Holding → Asked → List JobFile → Type 0
 MayAskIf true h a made = MayAsk h a made

@@ -3,13 +3,16 @@ use Rattle.std.specs.Prelude.{◌≡◌, ◌≢◌, ◌⊎◌, ℕ, ◌+◌, ◌
 use Rattle.soda_io.specs.Store.{Store}
 use Rattle.soda_io.specs.declared.role.FileRole.{FileRole}
 use Rattle.soda_words.specs.Limits.{most_text}
+use Rattle.param_lines.specs.Params.{most_params}
 use Rattle.soda_parse.specs.declared.refusal.Refusal.TheVariants.{TextTooLong}
 use Rattle.job_files.specs.Files.{HasRole, JobFile}
 use Rattle.job_files.specs.Progress.{Progress, Stuck}
 use Rattle.command_words.specs.Orders.{Asked}
+use Rattle.sodac_cli.specs.declared.status.ArrayFault.TheVariants as of
 use Rattle.sodac_cli.specs.declared.status.Status.{Status}
 use Rattle.sodac_cli.specs.declared.status.Status.TheVariants as is
 use Rattle.sodac_cli.specs.Due.{DueFor, MayAskFor}
+use Rattle.sodac_cli.specs.Work.{text_count}
 
 -- a run ends with the status that is due, with a fault of a file or of `out`, or for want of memory
 pub data Ending : Type 0 where
@@ -22,6 +25,7 @@ abbrev pub ending_of : Status → Ending
 ending_of is.Ok = due
 ending_of is.Usage = due
 ending_of (is.Program r) = due
+ending_of (is.Array fault) = due
 ending_of (is.FileFault role) = file_fault role
 ending_of is.OutFault = out_fault
 ending_of is.Memory = memory
@@ -32,18 +36,34 @@ abbrev pub opened_count : List JobFile → ℕ
 opened_count [] = 0
 opened_count (f ∷ fs) = (if f.opened then 1 else 0) + opened_count fs
 
+-- of the program's text and of the params' no byte was read behind the first that is too many; of the n-th file
+-- `places n` bytes were read
+pub record ReadsFew (a : Asked) (places : ℕ → ℕ) : Type 0 where
+  pub program : places 0 ≤ most_text + 1
+  pub params : a.params ≢ None → places 1 ≤ most_params + 1
+
+abbrev pub ReadsFewFor : Option Asked → (ℕ → ℕ) → Type 0
+ReadsFewFor None places = Unit {0}
+ReadsFewFor (Some a) places = ReadsFew a places
+
+-- how many texts a job has
+abbrev pub text_count_for : Option Asked → ℕ
+text_count_for None = 0
+text_count_for (Some a) = text_count a
+
 -- a call that was handed files of which `first` ids were given and that stood so, at its end
 module _ (first : ℕ) (begun : Store) (asked : Option Asked) (given : ℕ) (now : Store) where
   -- Exactly these files were asked for, in order, the n-th got the n-th of the ids, and no call failed. At Ok each file
-  -- that was opened was read to its end, and elsewhere the program's was, unless it is too long. Of it no byte was read
-  -- behind the first that is too many.
+  -- that was opened was read to its end, and elsewhere each text was, but for the last where it may be too long.
   pub record AsksAll (status : Status) (files : List JobFile) : Type 0 where
     pub ended : ℕ
     pub places : ℕ → ℕ
     pub progress : Progress first begun files ended places given now
-    pub few : places 0 ≤ most_text + 1
+    pub few : ReadsFewFor asked places
     pub all : status ≡ is.Ok → ended ≡ opened_count files
-    pub some : status ≢ is.Program TextTooLong → min 1 (length files) ≤ ended
+    pub program : status ≢ is.Program TextTooLong → min 1 (length files) ≤ ended
+    pub texts : status ≢ is.Program TextTooLong → status ≢ is.Array (of.Params 0)
+        → min (text_count_for asked) (length files) ≤ ended
 
   -- files that may be asked for were, in order; the last call of all failed, on the file of this role
   pub record AsksUntilFault (role : FileRole) : Type 0 where
@@ -53,7 +73,7 @@ module _ (first : ℕ) (begun : Store) (asked : Option Asked) (given : ℕ) (now
     pub number : ℕ
     pub places : ℕ → ℕ
     pub stuck : Stuck first begun made ended number places given now
-    pub few : places 0 ≤ most_text + 1
+    pub few : ReadsFewFor asked places
     pub has_role : HasRole made number role
 
   -- files that may be asked for were, in order, and no call failed
@@ -63,7 +83,7 @@ module _ (first : ℕ) (begun : Store) (asked : Option Asked) (given : ℕ) (now
     pub ended : ℕ
     pub places : ℕ → ℕ
     pub progress : Progress first begun made ended places given now
-    pub few : places 0 ≤ most_text + 1
+    pub few : ReadsFewFor asked places
 
   -- this status is due, and just the files that are asked for until then were
   pub record AsksUntilDue (status : Status) : Type 0 where

@@ -4,12 +4,16 @@ use Rattle.std.specs.Fmt.{decimal}
 use Rattle.soda_io.specs.Cause.{Rose}
 use Rattle.soda_io.specs.declared.role.FileRole.{FileRole}
 use Rattle.soda_io.specs.declared.role.FileRole.TheVariants.{Program, Modules, Params, Stall, Input, Output}
+use Rattle.array_bytes.specs.declared.fault.CellFault.{CellFault}
+use Rattle.array_bytes.specs.declared.fault.CellFault.TheVariants as cell
 use Rattle.soda_ir.specs.declared.limit.LimitKind.{LimitKind}
 use Rattle.soda_ir.specs.declared.limit.LimitKind.TheVariants as of_kind
 use Rattle.soda_checks.specs.declared.need.Need.{Need}
 use Rattle.soda_checks.specs.declared.need.Need.TheVariants as need
 use Rattle.soda_parse.specs.declared.refusal.Refusal.{Refusal}
 use Rattle.soda_parse.specs.declared.refusal.Refusal.TheVariants as why
+use Rattle.sodac_cli.specs.declared.status.ArrayFault.{ArrayFault}
+use Rattle.sodac_cli.specs.declared.status.ArrayFault.TheVariants as of
 use Rattle.sodac_cli.specs.declared.status.Status.{Status}
 use Rattle.sodac_cli.specs.declared.status.Status.TheVariants as is
 
@@ -17,6 +21,7 @@ abbrev pub number_of : Status → ℕ
 number_of is.Ok = 0
 number_of is.Usage = 2
 number_of (is.Program r) = 3
+number_of (is.Array fault) = 4
 number_of (is.FileFault role) = 5
 number_of is.OutFault = 6
 number_of is.Memory = 7
@@ -79,11 +84,28 @@ refusal_text (why.Limit k n) = codes "limit " ++ (kind_text k ++ (codes " " ++ d
 refusal_text (why.BurstWidth n) = codes "burst width " ++ decimal n
 refusal_text (why.ParamUse l) = at_line l (codes "param use")
 
+-- the message of a fault of an array. The last two never stand in a status
+abbrev pub cell_text : CellFault → List ℕ
+cell_text (cell.BadCell i) = codes "bad cell " ++ decimal i
+cell_text (cell.CellRange i) = codes "cell " ++ (decimal i ++ codes " out of range")
+cell_text (cell.TooFew n) = codes "too few cells " ++ decimal n
+cell_text cell.TooMany = codes "too many cells"
+cell_text cell.TooLong = codes "too long"
+cell_text cell.Failed = codes "failed"
+cell_text cell.Memory = codes "out of memory"
+
+-- the message of what is wrong with what the files hold
+abbrev pub array_fault_text : ArrayFault → List ℕ
+array_fault_text (of.Cell i fault) = codes "input " ++ (decimal i ++ (codes ": " ++ cell_text fault))
+array_fault_text (of.Params l) = codes "params: line " ++ decimal l
+array_fault_text (of.Stall l) = codes "stall: line " ++ decimal l
+
 -- the line of a status, and nothing at Ok
 abbrev pub line_of : Status → List ℕ
 line_of is.Ok = []
 line_of is.Usage = codes "sodac: usage: sodac [--share] [--raw] [--trace] [--params FILE] [--stall FILE] MODE WORDS\n"
 line_of (is.Program r) = codes "sodac: program: " ++ (refusal_text r ++ codes "\n")
+line_of (is.Array fault) = codes "sodac: " ++ (array_fault_text fault ++ codes "\n")
 line_of (is.FileFault role) = codes "sodac: file fault: " ++ (role_text role ++ codes "\n")
 line_of is.OutFault = codes "sodac: output fault\n"
 line_of is.Memory = codes "sodac: out of memory\n"

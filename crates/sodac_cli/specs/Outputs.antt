@@ -6,7 +6,7 @@ use Rattle.soda_ir.specs.Program.{PlainProgram}
 use Rattle.job_files.specs.Contents.{Holding, Holds}
 use Rattle.job_files.specs.Progress.{created}
 use Rattle.command_words.specs.Orders.{Asked}
-use Rattle.sodac_cli.specs.Work.{HasInputs, HasProgram, output_names, output_texts, writes_arrays}
+use Rattle.sodac_cli.specs.Work.{HasInputs, HasParams, HasProgram, output_names, output_texts, writes_arrays}
 
 -- each of the outputs, a name with its bytes, holds a prefix of its text
 abbrev pub ArePrefixes : List (List ℕ × List ℕ) → List (List ℕ) → Type 0
@@ -19,7 +19,8 @@ pub record HoldPrefixes (h : Holding) (a : Asked) (outputs : List (List ℕ × L
   pub plain : PlainProgram
   pub program : HasProgram h a plain
   pub prefixes : All (λ output. output.1 ≡ []) outputs
-      ⊎ ((arrays : List (List ℤ)) × HasInputs h a plain arrays × ArePrefixes outputs (output_texts a plain arrays))
+      ⊎ ((values : List ℤ) × HasParams h a plain values × (arrays : List (List ℤ)) × HasInputs h a plain arrays
+      × ArePrefixes outputs (output_texts a plain values arrays))
 
 -- the outputs that were created, by what the words ask for
 abbrev pub AreOutputs : Holding → Option Asked → List (List ℕ × List ℕ) → Type 0
@@ -42,8 +43,9 @@ HoldTexts h (name ∷ names) (text ∷ texts) = (h name ≡ Some text) × HoldTe
 
 -- Where a mode writes arrays: of the one program and the one list of arrays, each output holds its text.
 abbrev pub DeliversIf : Bool → Holding → Holding → Asked → Type 0
-DeliversIf true old new a = (p : PlainProgram) → HasProgram old a p → (arrays : List (List ℤ))
-    → HasInputs old a p arrays → HoldTexts new (output_names a p) (output_texts a p arrays)
+DeliversIf true old new a = (p : PlainProgram) → HasProgram old a p → (values : List ℤ) → HasParams old a p values
+    → (arrays : List (List ℤ)) → HasInputs old a p arrays
+    → HoldTexts new (output_names a p) (output_texts a p values arrays)
 DeliversIf false old new a = Unit {0}
 
 -- each output holds its text, by what the words ask for

@@ -47,6 +47,7 @@ abbrev pub PrintsDue : Holding → Asked → (old new : List ℕ) → Status →
 PrintsDue h a old new is.Ok = PrintsAll h a old new
 PrintsDue h a old new is.Usage = new ≡ old
 PrintsDue h a old new (is.Program r) = new ≡ old
+PrintsDue h a old new (is.Array fault) = new ≡ old
 PrintsDue h a old new (is.FileFault role) = new ≡ old
 PrintsDue h a old new is.OutFault = new ≡ old
 PrintsDue h a old new is.Memory = new ≡ old

@@ -1,13 +1,20 @@
--- What the words ask for: which of it is built, the files of the job, and the texts of its outputs.
-use Rattle.std.specs.Prelude.{◌≡◌, ℕ, ◌+◌, Bool, true, false, not, ◌&&◌, List, [], ◌∷◌, ◌++◌, map, length, take, drop, Option, Some, unwrap_or, is_none, ℤ, String, string_bytes}
+-- What the words ask for: which of it is built, the files of the job, its params and arrays, and the bytes of its
+-- outputs.
+use Rattle.std.specs.Prelude.{◌≡◌, ◌≢◌, ℕ, zero, suc, ◌+◌, Bool, true, false, not, ◌&&◌, if◌then◌else◌, List, [], ◌∷◌, ◌++◌, map, length, take, drop, Option, Some, None, unwrap_or, ℤ, String, string_bytes}
 use Rattle.std.specs.Global.{Global}
-use Rattle.soda_io.specs.declared.role.FileRole.TheVariants.{Program, Input, Output}
+use Rattle.soda_io.specs.declared.role.FileRole.TheVariants.{Program, Params, Input, Output}
+use Rattle.soda_words.specs.IntType.{IntType}
 use Rattle.soda_words.specs.Limits.{most_text}
 use Rattle.soda_ir.specs.Program.{PlainProgram, input_types}
 use Rattle.soda_ir.specs.Valid.{output_types}
 use Rattle.soda_eval.specs.Runs.{cells_at, defined_arrays}
 use Rattle.soda_parse.specs.Text.{Accepts}
-use Rattle.job_parts.specs.Cells.{AreCells, array_text, run_of}
+use Rattle.array_bytes.specs.Written.{array_bytes}
+use Rattle.array_bytes.specs.declared.fault.CellFault.{CellFault}
+use Rattle.array_bytes.specs.declared.form.Form.{Form}
+use Rattle.array_bytes.specs.declared.form.Form.TheVariants.{Raw, Text}
+use Rattle.param_lines.specs.Params.{GivesParams, RefusesLine}
+use Rattle.job_arrays.specs.Arrays.{IsFaulty, IsGood}
 use Rattle.job_files.specs.Contents.{Holding}
 use Rattle.job_files.specs.Files.{JobFile}
 use Rattle.command_words.specs.declared.mode.Mode.{Mode}
@@ -36,10 +43,13 @@ writes_arrays Compile = false
 writes_arrays Sim = true
 writes_arrays Selftest = false
 
--- all that is asked for is built: so far no flag and no option is
+-- all that is asked for is built: sharing isn't so far
 abbrev pub is_built : Asked → Bool
-is_built a = is_built_mode a.mode && (not a.share && (not a.raw && (not a.trace
-    && (is_none a.params && is_none a.stall))))
+is_built a = is_built_mode a.mode && not a.share
+
+-- the form of all arrays
+abbrev pub form_of : Asked → Form
+form_of a = if a.raw then Raw else Text
 
 -- the name of the program's file
 abbrev pub program_of : Asked → List ℕ
@@ -63,6 +73,15 @@ input_names a p = take (input_count p) a.names
 abbrev pub output_names : Asked → PlainProgram → List (List ℕ)
 output_names a p = drop (input_count p) a.names
 
+-- the name of an option's file, where the option is given
+abbrev pub if_given : Option (List ℕ) → List (List ℕ)
+if_given None = []
+if_given (Some name) = name ∷ []
+
+-- the names of the texts of a job: of its program, its params and its stalls
+abbrev pub text_names : Asked → List (List ℕ)
+text_names a = program_of a ∷ (if_given a.params ++ if_given a.stall)
+
 -- the files of inputs of these names, and of outputs, where the first has the number k
 abbrev pub inputs_from : ℕ → List (List ℕ) → List JobFile
 inputs_from k [] = []
@@ -72,13 +91,23 @@ abbrev pub outputs_from : ℕ → List (List ℕ) → List JobFile
 outputs_from k [] = []
 outputs_from k (name ∷ names) = record { role = Output k; opened = false; name = name } ∷ outputs_from (k + 1) names
 
--- the program's file
+-- the file of the program, and that of the params
 abbrev pub program_file : Asked → JobFile
 program_file a = record { role = Program; opened = true; name = program_of a }
 
+abbrev pub params_file : List ℕ → JobFile
+params_file name = record { role = Params; opened = true; name = name }
+
+-- the texts of a job, in order: the params are the second where they are given
+abbrev pub texts_of : Asked → List JobFile
+texts_of a = program_file a ∷ map params_file (if_given a.params)
+
+abbrev pub text_count : Asked → ℕ
+text_count a = 1 + length (if_given a.params)
+
 -- the files of a job in order; the number of inputs is the program's
 abbrev pub files_of : Asked → PlainProgram → List JobFile
-files_of a p = program_file a ∷ (inputs_from 0 (input_names a p) ++ outputs_from 0 (output_names a p))
+files_of a p = texts_of a ++ (inputs_from 0 (input_names a p) ++ outputs_from 0 (output_names a p))
 
 -- the program's file holds an accepted text, which stands for p
 pub record HasProgram (h : Holding) (a : Asked) (p : PlainProgram) : Type 0 where
@@ -86,23 +115,79 @@ pub record HasProgram (h : Holding) (a : Asked) (p : PlainProgram) : Type 0 wher
   pub there : h (program_of a) ≡ Some text
   pub accepted : Accepts most_text text p
 
--- the name holds exactly n good cells, and nothing else
-pub record HoldsCells (h : Holding) (n : ℕ) (name : List ℕ) (cells : List ℤ) : Type 0 where
+-- these are the values of all params: the params file gives them, or there is no such file and no param
+abbrev pub HasParamsBy : Option (List ℕ) → Holding → PlainProgram → List ℤ → Type 0
+HasParamsBy None h p values = (p.params ≡ []) × (values ≡ [])
+HasParamsBy (Some name) h p values = (bytes : List ℕ) × (h name ≡ Some bytes) × GivesParams p.params bytes values
+
+abbrev pub HasParams : Holding → Asked → PlainProgram → List ℤ → Type 0
+HasParams h a p values = HasParamsBy a.params h p values
+
+-- the params are refused at this line, which is 0 where there are some and no file is given
+abbrev pub RefusesParamsBy : Option (List ℕ) → Holding → PlainProgram → ℕ → Type 0
+RefusesParamsBy None h p line = (p.params ≢ []) × (line ≡ 0)
+RefusesParamsBy (Some name) h p line = (bytes : List ℕ) × (h name ≡ Some bytes) × RefusesLine p.params bytes line
+
+abbrev pub RefusesParams : Holding → Asked → PlainProgram → ℕ → Type 0
+RefusesParams h a p line = RefusesParamsBy a.params h p line
+
+-- the name holds an array of n cells of the type, without a fault
+pub record HoldsCells (h : Holding) (form : Form) (n : ℕ) (ty : IntType) (name : List ℕ) (cells : List ℤ) : Type 0 where
   pub bytes : List ℕ
   pub there : h name ≡ Some bytes
-  pub good : AreCells n bytes cells
+  pub good : IsGood form ty n bytes cells
 
--- each of the names does, in order
-abbrev pub HoldCells : Holding → ℕ → List (List ℕ) → List (List ℤ) → Type 0
-HoldCells h n [] [] = Unit {0}
-HoldCells h n [] (cells ∷ arrays) = ⊥
-HoldCells h n (name ∷ names) [] = ⊥
-HoldCells h n (name ∷ names) (cells ∷ arrays) = HoldsCells h n name cells × HoldCells h n names arrays
+-- what the name holds has this first fault
+pub record HoldsFault (h : Holding) (form : Form) (n : ℕ) (ty : IntType) (name : List ℕ) (fault : CellFault)
+    : Type 0 where
+  pub bytes : List ℕ
+  pub there : h name ≡ Some bytes
+  pub faulty : IsFaulty form ty n bytes fault
+
+-- how names hold arrays of n cells in one form
+module _ (h : Holding) (form : Form) (n : ℕ) where
+  -- each of the names holds its array, of the type in its place
+  abbrev pub HoldCells : List IntType → List (List ℕ) → List (List ℤ) → Type 0
+  HoldCells types [] [] = Unit {0}
+  HoldCells types [] (cells ∷ arrays) = ⊥
+  HoldCells types (name ∷ names) [] = ⊥
+  HoldCells [] (name ∷ names) (cells ∷ arrays) = ⊥
+  HoldCells (ty ∷ types) (name ∷ names) (cells ∷ arrays) =
+      HoldsCells h form n ty name cells × HoldCells types names arrays
+
+  -- the name of this number has this fault, and each name before it holds an array without one
+  abbrev pub HaveFault : List IntType → List (List ℕ) → ℕ → CellFault → Type 0
+  HaveFault types [] number fault = ⊥
+  HaveFault [] (name ∷ names) number fault = ⊥
+  HaveFault (ty ∷ types) (name ∷ names) zero fault = HoldsFault h form n ty name fault
+  HaveFault (ty ∷ types) (name ∷ names) (suc number) fault =
+      ((cells : List ℤ) × HoldsCells h form n ty name cells) × HaveFault types names number fault
 
 -- the inputs of a job hold these arrays
 abbrev pub HasInputs : Holding → Asked → PlainProgram → List (List ℤ) → Type 0
-HasInputs h a p arrays = HoldCells h (cells_at p (rows_of a)) (input_names a p) arrays
+HasInputs h a p arrays = HoldCells h (form_of a) (cells_at p (rows_of a)) (input_types p.tensors) (input_names a p)
+    arrays
 
--- the texts of the outputs over those arrays, in order
-abbrev pub output_texts : Asked → PlainProgram → List (List ℤ) → List (List ℕ)
-output_texts a p arrays = map (array_text (run_of p)) (defined_arrays p (rows_of a) [] arrays)
+-- the first of the inputs that has a fault has this number, and this is its first fault
+abbrev pub HasFault : Holding → Asked → PlainProgram → ℕ → CellFault → Type 0
+HasFault h a p number fault = HaveFault h (form_of a) (cells_at p (rows_of a)) (input_types p.tensors)
+    (input_names a p) number fault
+
+-- how many cells of a program's arrays stand in a line: the first extent, and one where there is but one dimension
+abbrev pub first_extent : List ℕ → ℕ
+first_extent [] = 1
+first_extent (n ∷ ns) = n
+
+abbrev pub run_of : PlainProgram → ℕ
+run_of p = first_extent p.extents
+
+-- the bytes of arrays of these types, in order
+abbrev pub texts_from : Form → ℕ → List IntType → List (List ℤ) → List (List ℕ)
+texts_from form run [] arrays = []
+texts_from form run (ty ∷ types) [] = []
+texts_from form run (ty ∷ types) (cells ∷ arrays) = array_bytes form ty run cells ∷ texts_from form run types arrays
+
+-- the bytes of the outputs over those params and arrays, in order
+abbrev pub output_texts : Asked → PlainProgram → List ℤ → List (List ℤ) → List (List ℕ)
+output_texts a p params arrays =
+    texts_from (form_of a) (run_of p) (output_types p.tensors) (defined_arrays p (rows_of a) params arrays)

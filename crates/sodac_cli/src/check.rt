@@ -1,4 +1,4 @@
-ghost use Rattle.std.specs.Prelude.{◌≡◌, ℕ, [], true, Some};
+ghost use Rattle.std.specs.Prelude.{◌≡◌, ℕ, true, Some};
 ghost use Rattle.soda_io.specs.Store.{Store};
 ghost use Rattle.soda_ir.specs.Program.{plain};
 ghost use Rattle.job_files.specs.Contents.{Holding};
@@ -24,7 +24,7 @@ use whole_files::put_whole;
 // Prints the canonical text of a program.
 fn print_program<S: Sink>(alloc: Global, program: &Program, out: &mut S) -> Status
     ensures runs { (first : ℕ) (begun : Store) (a : Asked) (given : ℕ) (now : Store) → a.mode ≡ PlainMode.Check
-        → is_built a ≡ true → a.names ≡ [] → IsRead first begun a (plain program.now) given now
+        → is_built a ≡ true → IsRead first begun a (plain program.now) given now
         → Runs first begun (Some a) given now result }
     ensures faults { (count : ℕ) → FileFaults count count result }
     ensures prints { S.tells → (holding : Holding) (a : Asked) → a.mode ≡ PlainMode.Check
@@ -54,7 +54,6 @@ pub(crate) fn check<F: Files, S: Sink>(
 ) -> Status
     requires mode { order.now.mode ≡ PlainMode.Check }
     requires built { is_built (asked order.now) ≡ true }
-    requires no_names { (asked order.now).names ≡ [] }
     ensures runs { F.tells → Runs (F.given files.old) (F.store files.old) (Some (asked order.now)) (F.given files.new)
         (F.store files.new) result }
     ensures faults { FileFaults (F.faults files.old) (F.faults files.new) result }

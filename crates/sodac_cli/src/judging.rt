@@ -1,10 +1,9 @@
-ghost use Rattle.std.specs.Prelude.{◌≡◌, ◌+◌, ◌≤◌, ◌∷◌, Some, drop, length, take, OnOk};
+ghost use Rattle.std.specs.Prelude.{◌≡◌, ◌+◌, ◌≤◌, ◌++◌, Some, drop, length, option_map, take, OnOk};
 ghost use Rattle.std.specs.List.{list_any};
 ghost use Rattle.std.specs.Result.{IfErr};
 ghost use Rattle.std.specs.Str.{bytes_eq};
 ghost use Rattle.soda_words.specs.Limits.{most_tensors};
 ghost use Rattle.soda_ir.specs.Program.{plain};
-ghost use Rattle.soda_eval.specs.Sums.{IsSumProgram};
 ghost use Rattle.job_files.specs.Files.{names_of};
 ghost use Rattle.command_words.specs.Orders.{asked};
 ghost use Rattle.command_words.specs.declared.mode.Mode.{Mode as PlainMode};
@@ -12,13 +11,13 @@ ghost use Rattle.sodac_cli.specs.Allowed.{AllowsPlain};
 ghost use Rattle.sodac_cli.specs.Due.{are_apart, names_fit, passed_limit, refusal_of};
 ghost use Rattle.sodac_cli.specs.Endings.{due, ending_of};
 ghost use Rattle.sodac_cli.specs.Machine.Steps.{LetsPass};
-ghost use Rattle.sodac_cli.specs.Work.{input_count, output_count, program_of};
+ghost use Rattle.sodac_cli.specs.Work.{if_given, input_count, output_count, program_of, text_names};
 
 use crate::Status;
 use command_words::{Order, Source};
-use soda_eval::is_sum_program;
 use soda_ir::Program;
 use soda_parse::{LimitKind, Refusal};
+use soda_run::array_cells;
 use soda_words::{MOST_CELLS, MOST_TOTAL};
 
 /// How many inputs a program has.
@@ -65,20 +64,40 @@ fn is_one_of(name: &str, names: &[&str]) -> bool
     names.iter().any(|other| name == *other)
 }
 
-// Whether a name is the program's, or one of these.
-fn is_among(name: &str, program: &str, names: &[&str]) -> bool
-    ensures { result ≡ list_any (bytes_eq name.now) (program.now ∷ names_of names.now) }
+// Whether an option is given a file of this name.
+fn is_given(name: &str, option: Option<&str>) -> bool
+    ensures { result ≡ list_any (bytes_eq name.now) (if_given (option_map (λ n. n.now) option.entry)) }
 {
-    name == program || is_one_of(name, names)
+    match option {
+        Some(other) => name == other,
+        None => false,
+    }
 }
 
-// Whether each name from `inputs` on differs from the program's and from all names before it.
-fn are_apart(program: &str, names: &[&str], inputs: usize) -> bool
+// Whether a text of the job has this name.
+#[tactic(auto, using(crate::proofs::Judged::any_of_two))]
+fn is_text(name: &str, order: &Order<'_>) -> bool
+    ensures { result ≡ list_any (bytes_eq name.now) (text_names (asked order.now)) }
+{
+    name == program_name(order) || is_given(name, order.params) || is_given(name, order.stall)
+}
+
+// Whether a text of the job has this name, or it is one of these.
+#[tactic(auto, using(crate::proofs::Judged::any_of_two))]
+fn is_among(name: &str, order: &Order<'_>, names: &[&str]) -> bool
+    ensures { result ≡ list_any (bytes_eq name.now) (text_names (asked order.now) ++ names_of names.now) }
+{
+    is_text(name, order) || is_one_of(name, names)
+}
+
+// Whether each name from `inputs` on differs from those of the texts and from all names before it.
+fn are_apart(order: &Order<'_>, names: &[&str], inputs: usize) -> bool
     requires { inputs ≤ length names.now }
-    ensures { result ≡ are_apart (program.now ∷ take inputs (names_of names.now)) (drop inputs (names_of names.now)) }
+    ensures { result ≡ are_apart (text_names (asked order.now) ++ take inputs (names_of names.now))
+        (drop inputs (names_of names.now)) }
 {
     for at in inputs..names.len() {
-        if is_among(names[at], program, &names[..at]) {
+        if is_among(names[at], order, &names[..at]) {
             return false;
         }
     }
@@ -94,26 +113,25 @@ fn names_fit(order: &Order<'_>, program: &Program) -> bool
     if names.len() != inputs + output_count(program) {
         return false;
     }
-    are_apart(program_name(order), names, inputs)
+    are_apart(order, names, inputs)
 }
 
 // The limit that the arrays of so many rows pass, if they pass one.
 fn passed_limit(program: &Program, rows: u64) -> Option<Refusal>
-    requires { IsSumProgram (plain program.now) }
     ensures { result ≡ passed_limit (plain program.now) rows }
 {
-    if rows > MOST_CELLS {
-        return Some(Refusal::Limit(LimitKind::Cells, rows as u128));
+    let cells = array_cells(program, rows);
+    if cells > MOST_CELLS as u128 {
+        return Some(Refusal::Limit(LimitKind::Cells, cells));
     }
-    let total = rows as u128 * program.parts().tensors.len() as u128;
+    let total = cells * program.parts().tensors.len() as u128;
     if total > MOST_TOTAL as u128 {
         return Some(Refusal::Limit(LimitKind::Total, total));
     }
     None
 }
 
-/// Judges an accepted program in `plain`, before any array is asked for: by the names, by its form, and by the limits
-/// of its arrays.
+/// Judges an accepted program in `plain`, before any array is asked for: by the names, and by the limits of its arrays.
 pub(crate) fn judge(order: &Order<'_>, program: &Program) -> Result<(), Status>
     requires { order.now.mode ≡ PlainMode.Plain }
     ensures passes { OnOk result (LetsPass (asked order.now) (plain program.now)) }
@@ -123,9 +141,6 @@ pub(crate) fn judge(order: &Order<'_>, program: &Program) -> Result<(), Status>
 {
     if !names_fit(order, program) {
         return Err(Status::Usage);
-    }
-    if !is_sum_program(program) {
-        return Err(Status::NotYetBuilt);
     }
     match passed_limit(program, order.rows.unwrap_or(0)) {
         Some(refusal) => Err(Status::Program(refusal)),

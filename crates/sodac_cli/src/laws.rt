@@ -5,6 +5,7 @@ ghost use Rattle.job_files.specs.Files.{JobFile};
 ghost use Rattle.sodac_cli.specs.Due.{Due};
 ghost use Rattle.sodac_cli.specs.declared.status.Status.{Status as Ended};
 
+use param_lines::params_are_one;
 use soda_parse::texts_are_one;
 
 /// No two statuses are due, and none over two lists of files.
@@ -12,5 +13,6 @@ pub fn only_one_is_due()
     ensures { (holding : Holding) (words : List (String Global)) (files others : List JobFile) (one other : Ended)
         → Due holding words files one → Due holding words others other → (one ≡ other) × (files ≡ others) }
 {
-    texts_are_one()
+    texts_are_one();
+    params_are_one()
 }

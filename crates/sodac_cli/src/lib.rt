@@ -3,15 +3,19 @@
 
 mod arrays;
 mod check;
+mod delivering;
+mod gathering;
 mod judging;
 mod laws;
 mod messages;
+mod params;
 mod plain;
 mod program;
 mod report;
 mod status;
 mod top;
+mod types;
 
 pub use laws::only_one_is_due;
-pub use status::Status;
+pub use status::{ArrayFault, Status};
 pub use top::execute;

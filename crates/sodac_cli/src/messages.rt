@@ -1,6 +1,8 @@
 ghost use Rattle.std.specs.Prelude.{◌≡◌, IfOk, string_bytes};
-ghost use Rattle.sodac_cli.specs.Lines.{at_line, kind_text, need_text, refusal_text};
+ghost use Rattle.sodac_cli.specs.Lines.{array_fault_text, at_line, cell_text, kind_text, need_text, refusal_text};
 
+use crate::ArrayFault;
+use array_bytes::CellFault;
 use soda_parse::{LimitKind, Need, Refusal};
 use std::alloc::{AllocError, Global};
 
@@ -84,5 +86,34 @@ pub(crate) fn refusal_text(alloc: Global, refusal: Refusal) -> Result<String, Al
         Refusal::Limit(kind, number) => limit_text(alloc, kind, number),
         Refusal::BurstWidth(width) => format!(in alloc; "burst width {width}"),
         Refusal::ParamUse(line) => at_line(alloc, line, "param use"),
+    }
+}
+
+// The message of a fault of an array.
+fn cell_text(alloc: Global, fault: CellFault) -> Result<String, AllocError>
+    ensures { IfOk result (λ found. string_bytes found ≡ cell_text fault) }
+{
+    match fault {
+        CellFault::BadCell(number) => format!(in alloc; "bad cell {number}"),
+        CellFault::CellRange(number) => format!(in alloc; "cell {number} out of range"),
+        CellFault::TooFew(number) => format!(in alloc; "too few cells {number}"),
+        CellFault::TooMany => String::from_str(alloc, "too many cells"),
+        CellFault::TooLong => String::from_str(alloc, "too long"),
+        CellFault::Failed => String::from_str(alloc, "failed"),
+        CellFault::Memory => String::from_str(alloc, "out of memory"),
+    }
+}
+
+/// The message of what is wrong with what a file holds.
+pub(crate) fn array_fault_text(alloc: Global, fault: ArrayFault) -> Result<String, AllocError>
+    ensures { IfOk result (λ found. string_bytes found ≡ array_fault_text fault) }
+{
+    match fault {
+        ArrayFault::Cell { input, fault } => {
+            let message = cell_text(alloc, fault)?;
+            format!(in alloc; "input {input}: {message}")
+        }
+        ArrayFault::Params(line) => format!(in alloc; "params: line {line}"),
+        ArrayFault::Stall(line) => format!(in alloc; "stall: line {line}"),
     }
 }

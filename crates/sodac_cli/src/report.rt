@@ -3,7 +3,7 @@ ghost use Rattle.sodac_cli.specs.declared.status.Status.TheVariants.{Memory};
 ghost use Rattle.sodac_cli.specs.Lines.{Reports, line_of, role_text};
 
 use crate::Status;
-use crate::messages::refusal_text;
+use crate::messages::{array_fault_text, refusal_text};
 use soda_io::{FileRole, IoErr, Sink};
 use std::alloc::{AllocError, Global};
 use whole_files::put_whole;
@@ -35,6 +35,10 @@ fn line(alloc: Global, status: Status) -> Result<String, AllocError>
         Status::Program(refusal) => {
             let message = refusal_text(alloc, refusal)?;
             format!(in alloc; "sodac: program: {message}\n")
+        }
+        Status::Array(fault) => {
+            let message = array_fault_text(alloc, fault)?;
+            format!(in alloc; "sodac: {message}\n")
         }
         Status::FileFault(role) => {
             let role = role_text(alloc, role)?;

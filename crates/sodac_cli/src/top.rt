@@ -26,10 +26,6 @@ fn is_built(order: &Order<'_>) -> bool
         Mode::Plan | Mode::Compile | Mode::Sim | Mode::Selftest => false,
     };
     mode && !order.share
-        && !order.raw
-        && !order.trace
-        && order.params.is_none()
-        && order.stall.is_none()
 }
 
 // Does what is asked for.
@@ -81,11 +77,10 @@ fn job<F: Files, S: Sink>(alloc: Global, words: &[String], files: &mut F, out: &
 /// Does what the words say over the files, prints to `out` what the mode prints, and reports to `err` what it doesn't
 /// do. The first word is the program's own name.
 ///
-/// The status is that of the first refusal or fault, in this order: the words; a mode, a flag or an option that isn't
-/// built yet; the program's file, and its text. In `check` the canonical text is put to `out` then. In `plain` there
-/// follow the number of names and their equality, a form of program that isn't built yet, the limits of the arrays,
-/// opening the inputs, creating the outputs, reading the inputs, their cells, and writing the outputs. Want of memory
-/// may come in place of any.
+/// The status is that of the first refusal or fault, in this order: the words; a mode or a flag that isn't built yet;
+/// the program's file, and its text. In `check` the canonical text is put to `out` then. In `plain` there follow the number
+/// of names and their equality, the limits of the arrays, the params file and its lines, opening the inputs, creating
+/// the outputs, reading each input in order, and writing each output. Want of memory may come in place of any.
 pub fn execute<F: Files, S: Sink, E: Sink>(
     alloc: Global,
     words: &[String],

@@ -2,9 +2,10 @@
 //! Words, programs and cells have their rows in the tables that the built program is run on.
 
 use super::narrow::Narrow;
+use array_bytes::CellFault;
 use soda_io::{FileCall, FileRole, MemFiles, MemSink};
 use soda_parse::Refusal;
-use sodac_cli::{Status, execute};
+use sodac_cli::{ArrayFault, Status, execute};
 use std::alloc::{AllocError, Global};
 use std::process::Abort;
 use std::test::Fail;
@@ -62,6 +63,20 @@ const USAGE: [&[u8]; 2] = [
 ];
 
 const SYNTAX: [&[u8]; 2] = [b"", b"sodac: program: line 1: syntax\n"];
+
+const MORE: Status = Status::Array(ArrayFault::Cell {
+    input: 0,
+    fault: CellFault::TooMany,
+});
+
+const OF_MORE: [&[u8]; 2] = [b"", b"sodac: input 0: too many cells\n"];
+
+const BAD: Status = Status::Array(ArrayFault::Cell {
+    input: 0,
+    fault: CellFault::BadCell(0),
+});
+
+const OF_BAD: [&[u8]; 2] = [b"", b"sodac: input 0: bad cell 0\n"];
 
 const UNBUILT: [&[u8]; 2] = [b"", b"sodac: not yet built\n"];
 
@@ -146,18 +161,18 @@ const ROWS: [Row; 29] = [
         "sodac plain p 4 i o",
         &[],
         ALL,
-        Status::NotYetBuilt,
-        UNBUILT,
+        MORE,
+        OF_MORE,
         Some(NOTHING),
-        b"orrocrr",
+        b"orrocr",
     ),
-    // The input may be the program's file, and is read no further than its cells can reach.
+    // The input may be the program's file.
     (
         "sodac plain p 5 p o",
         &[],
         ALL,
-        Status::NotYetBuilt,
-        UNBUILT,
+        BAD,
+        OF_BAD,
         Some(NOTHING),
         b"orrocr",
     ),
@@ -210,7 +225,7 @@ const ROWS: [Row; 29] = [
         Some(SUMS),
         b"orrocrrw",
     ),
-    // What isn't built asks for no file: a mode, and flags in a mode that is built.
+    // What isn't built asks for no file: a mode, and a flag in a mode that is built.
     (
         "sodac sim p 5 i o",
         &[],
@@ -258,10 +273,10 @@ const OVER: [Row; 7] = [
         "sodac plain p 4 i o",
         &[],
         ALL,
-        Status::NotYetBuilt,
-        UNBUILT,
+        MORE,
+        OF_MORE,
         Some(NOTHING),
-        b"orrocrr",
+        b"orrocr",
     ),
     (
         "sodac plain p 5 o o",
@@ -285,7 +300,7 @@ const OVER: [Row; 7] = [
 ];
 
 // The words of a line.
-fn words(alloc: Global, line: &str) -> Result<Vec<String>, AllocError> {
+pub(crate) fn words(alloc: Global, line: &str) -> Result<Vec<String>, AllocError> {
     let mut all = Vec::new(alloc);
     for word in line.split(' ') {
         all.push(String::from_str(alloc, word)?)?;

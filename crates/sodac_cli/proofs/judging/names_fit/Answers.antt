@@ -16,4 +16,4 @@ returns c =
     let same : names_of names ≡ a.names = ap names_of c.as_slice-names.ensures.value in
     let count : length a.names ≡ input_count p + output_count p =
     omega (arith, ap length same, length-map names (λ (name : Bor (List ℕ)). name.now), c.input_count-inputs.ensures, c.output_count.ensures.count) in
-    c.are_apart.ensures ∙ fit_by a p _ _ _ c.program_name.ensures same c.input_count-inputs.ensures count
+    c.are_apart.ensures ∙ fit_by a p _ _ same c.input_count-inputs.ensures count

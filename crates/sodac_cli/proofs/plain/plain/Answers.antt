@@ -1,4 +1,4 @@
-use Rattle.std.proofs.Common.{ℕ, refl, sym, subst}
+use Rattle.std.proofs.Common.{ℕ, sym, subst}
 use Rattle.command_words.specs.Orders.{asked}
 use Rattle.sodac_cli.specs.Counts.{FileFaults}
 use Rattle.sodac_cli.proofs.Permitted.{text_in_plain}

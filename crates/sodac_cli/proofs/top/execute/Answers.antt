@@ -1,5 +1,4 @@
 use Rattle.std.proofs.Common.{◌≡◌, ◌⊎◌, refl, inr}
-use Rattle.sodac_cli.specs.declared.status.Status.{Status}
 use Rattle.sodac_cli.specs.declared.status.Status.TheVariants as is
 use Rattle.sodac_cli.specs.Correct.{IsDue, Runs}
 use Rattle.sodac_cli.specs.Counts.{FileFaults, OutFaults}
