@@ -54,7 +54,7 @@ fn named(rt: &impl Abort, name: Name) -> Ty {
 // An operator, its operands with their types, and the type and value that it gives.
 type Case = (BinOp, Name, i128, Name, i128, Name, i128);
 
-const BINARY: [Case; 47] = [
+const BINARY: &[Case] = &[
     (BinOp::Div, INT32, 7, INT32, 0, INT32, 0),
     (BinOp::Rem, INT32, 7, INT32, 0, INT32, 7),
     (BinOp::Div, INT32, -7, INT32, 3, INT32, -2),
@@ -144,7 +144,7 @@ const BINARY: [Case; 47] = [
     (BinOp::Max, INT8, -128, UINT16, 65535, INT32, 65535),
 ];
 
-const UNARY: [(UnOp, Name, i128, Name, i128); 14] = [
+const UNARY: &[(UnOp, Name, i128, Name, i128)] = &[
     (UnOp::Minus, UINT32, 1, UINT32, ALL_32),
     (UnOp::Abs, INT32, LEAST_32, INT32, LEAST_32),
     (UnOp::Flip, UINT8, 0, INT32, -1),
@@ -161,7 +161,7 @@ const UNARY: [(UnOp, Name, i128, Name, i128); 14] = [
     (UnOp::Abs, INT2, -2, INT32, 2),
 ];
 
-const COMMON: [(Name, Name, Name); 7] = [
+const COMMON: &[(Name, Name, Name)] = &[
     (UINT40, INT64, INT64),
     (INT40, UINT64, UINT64),
     (UINT64, INT64, UINT64),
@@ -172,12 +172,12 @@ const COMMON: [(Name, Name, Name); 7] = [
 ];
 
 // A test, two operands with their types, and the type and value of the one that is chosen.
-const CHOICES: [(i128, Name, i128, Name, i128, Name, i128); 2] = [
+const CHOICES: &[(i128, Name, i128, Name, i128, Name, i128)] = &[
     (-1, INT32, -1, UINT32, 7, UINT32, ALL_32),
     (0, UINT8, 1, INT8, -128, INT32, -128),
 ];
 
-const NO_TYPES: [Name; 6] = [
+const NO_TYPES: &[Name] = &[
     (true, 0),
     (false, 0),
     (true, 1),
@@ -186,10 +186,10 @@ const NO_TYPES: [Name; 6] = [
     (true, 255),
 ];
 
-const LITERALS: [(u64, Name); 3] = [(2147483647, INT32), (2147483648, INT64), (1 << 63, UINT64)];
+const LITERALS: &[(u64, Name)] = &[(2147483647, INT32), (2147483648, INT64), (1 << 63, UINT64)];
 
 // A type, the bytes of its cell, and what it is promoted to.
-const SIZES: [(Name, u8, Name); 5] = [
+const SIZES: &[(Name, u8, Name)] = &[
     (UINT1, 1, INT32),
     (INT8, 1, INT32),
     (UINT16, 2, INT32),
@@ -197,7 +197,7 @@ const SIZES: [(Name, u8, Name); 5] = [
     (UINT40, 8, UINT40),
 ];
 
-const WRAPS: [(Name, i128, i128); 6] = [
+const WRAPS: &[(Name, i128, i128)] = &[
     (UINT8, 256, 0),
     (INT8, 128, -128),
     (INT2, 2, -2),
@@ -206,7 +206,7 @@ const WRAPS: [(Name, i128, i128); 6] = [
     (UINT1, i128::MIN, 0),
 ];
 
-const SPELLED_BINARY: [(BinOp, &str); 18] = [
+const SPELLED_BINARY: &[(BinOp, &str)] = &[
     (BinOp::LogOr, "||"),
     (BinOp::LogAnd, "&&"),
     (BinOp::BitOr, "|"),
@@ -227,7 +227,7 @@ const SPELLED_BINARY: [(BinOp, &str); 18] = [
     (BinOp::Max, "max"),
 ];
 
-const SPELLED_UNARY: [(UnOp, &str); 5] = [
+const SPELLED_UNARY: &[(UnOp, &str)] = &[
     (UnOp::Plus, "+"),
     (UnOp::Minus, "-"),
     (UnOp::Flip, "~"),
@@ -237,7 +237,8 @@ const SPELLED_UNARY: [(UnOp, &str); 5] = [
 
 #[test]
 fn operators_of_two_operands(rt: HostRuntime) {
-    for (op, a, x, b, y, ty, value) in BINARY {
+    for row in BINARY {
+        let (op, a, x, b, y, ty, value) = *row;
         let found = binary(op, named(&rt, a), x, named(&rt, b), y);
         assert_eq!(rt; found, (named(&rt, ty), value), "{op:?} of {x} and {y}");
     }
@@ -245,7 +246,8 @@ fn operators_of_two_operands(rt: HostRuntime) {
 
 #[test]
 fn operators_of_one_operand(rt: HostRuntime) {
-    for (op, of, v, ty, value) in UNARY {
+    for row in UNARY {
+        let (op, of, v, ty, value) = *row;
         let of = named(&rt, of);
         assert!(rt; in_range(of, v), "{v} in range");
         assert_eq!(rt; unary(op, of, v), (named(&rt, ty), value), "{op:?} of {v}");
@@ -254,7 +256,8 @@ fn operators_of_one_operand(rt: HostRuntime) {
 
 #[test]
 fn choices(rt: HostRuntime) {
-    for (test, a, x, b, y, ty, value) in CHOICES {
+    for row in CHOICES {
+        let (test, a, x, b, y, ty, value) = *row;
         let found = select(test, named(&rt, a), x, named(&rt, b), y);
         assert_eq!(rt; found, (named(&rt, ty), value), "select {test}");
     }
@@ -262,7 +265,8 @@ fn choices(rt: HostRuntime) {
 
 #[test]
 fn common_types(rt: HostRuntime) {
-    for (a, b, ty) in COMMON {
+    for row in COMMON {
+        let (a, b, ty) = *row;
         assert_eq!(rt;
             common(named(&rt, a), named(&rt, b)),
             named(&rt, ty),
@@ -273,21 +277,24 @@ fn common_types(rt: HostRuntime) {
 
 #[test]
 fn no_types(rt: HostRuntime) {
-    for (signed, bits) in NO_TYPES {
+    for row in NO_TYPES {
+        let (signed, bits) = *row;
         assert_eq!(rt; Ty::new(signed, bits), None, "{signed} {bits}");
     }
 }
 
 #[test]
 fn types_of_literals(rt: HostRuntime) {
-    for (v, ty) in LITERALS {
+    for row in LITERALS {
+        let (v, ty) = *row;
         assert_eq!(rt; literal_type(v), named(&rt, ty), "literal {v}");
     }
 }
 
 #[test]
 fn sizes_and_promotions(rt: HostRuntime) {
-    for (ty, bytes, promoted) in SIZES {
+    for row in SIZES {
+        let (ty, bytes, promoted) = *row;
         let ty = named(&rt, ty);
         assert_eq!(rt; cell_bytes(ty), bytes, "cell of {bytes} bytes");
         assert_eq!(rt;
@@ -300,17 +307,20 @@ fn sizes_and_promotions(rt: HostRuntime) {
 
 #[test]
 fn wraps(rt: HostRuntime) {
-    for (ty, v, value) in WRAPS {
+    for row in WRAPS {
+        let (ty, v, value) = *row;
         assert_eq!(rt; wrap(named(&rt, ty), v), value, "{v} in {ty:?}");
     }
 }
 
 #[test]
 fn spellings(rt: HostRuntime) {
-    for (op, spelling) in SPELLED_BINARY {
+    for row in SPELLED_BINARY {
+        let (op, spelling) = *row;
         assert_eq!(rt; op.spelling(), spelling.as_bytes(), "{op:?}");
     }
-    for (op, spelling) in SPELLED_UNARY {
+    for row in SPELLED_UNARY {
+        let (op, spelling) = *row;
         assert_eq!(rt; op.spelling(), spelling.as_bytes(), "{op:?}");
     }
 }

@@ -90,26 +90,27 @@ const IN: Row = (b"a", Role::Input, Formula::Nothing);
 const OUT: Row = (b"o", Role::Output, Formula::Sum(7));
 
 // The name of a kernel, its tensors, and whether they make a program.
-const PROGRAMS: [(&[u8], [Row; 2], bool); 13] = [
-    (b"k", [IN, OUT], true),
-    (b"input", [IN, OUT], true),
-    (b"9k", [IN, OUT], false),
-    (b"k", [OUT, IN], false),
-    (b"k", [IN, (b"o", Role::Local, Formula::Sum(7))], false),
-    (b"k", [IN, (b"o", Role::Input, Formula::Nothing)], false),
-    (b"k", [IN, (b"o", Role::Output, Formula::Nothing)], false),
-    (b"k", [(b"a", Role::Input, Formula::Number(7)), OUT], false),
-    (b"k", [(b"o", Role::Input, Formula::Nothing), OUT], false),
-    (b"k", [IN, (b"o", Role::Output, Formula::Number(7))], true),
-    (b"k", [IN, (b"o", Role::Output, Formula::Cell(0))], true),
-    (b"k", [IN, (b"o", Role::Output, Formula::Cell(2))], false),
-    (b"k", [IN, (b"o", Role::Output, Formula::Value(0))], false),
+const PROGRAMS: &[(&[u8], &[Row; 2], bool)] = &[
+    (b"k", &[IN, OUT], true),
+    (b"input", &[IN, OUT], true),
+    (b"9k", &[IN, OUT], false),
+    (b"k", &[OUT, IN], false),
+    (b"k", &[IN, (b"o", Role::Local, Formula::Sum(7))], false),
+    (b"k", &[IN, (b"o", Role::Input, Formula::Nothing)], false),
+    (b"k", &[IN, (b"o", Role::Output, Formula::Nothing)], false),
+    (b"k", &[(b"a", Role::Input, Formula::Number(7)), OUT], false),
+    (b"k", &[(b"o", Role::Input, Formula::Nothing), OUT], false),
+    (b"k", &[IN, (b"o", Role::Output, Formula::Number(7))], true),
+    (b"k", &[IN, (b"o", Role::Output, Formula::Cell(0))], true),
+    (b"k", &[IN, (b"o", Role::Output, Formula::Cell(2))], false),
+    (b"k", &[IN, (b"o", Role::Output, Formula::Value(0))], false),
 ];
 
 #[test]
 fn programs_are_made(rt: HostRuntime) {
-    for (kernel, tensors, wanted) in PROGRAMS {
-        let is_made = match made(rt.alloc(), kernel, &tensors) {
+    for row in PROGRAMS {
+        let (kernel, tensors, wanted) = *row;
+        let is_made = match made(rt.alloc(), kernel, tensors) {
             Ok(program) => {
                 drop(program);
                 Some(true)

@@ -20,7 +20,7 @@ type Row = (&'static [u8], Wanted);
 const SCALE: &[u8] = b"kernel: scale\nburst width: 16\nunroll factor: 1\nparam int16: c[2]\n\
 input int16: a(*)\noutput int16: o(0) = a(0) * c[1]\n";
 
-const SCALE_ROWS: [Row; 20] = [
+const SCALE_ROWS: &[Row] = &[
     (b"c 3 -2", Wanted::Values(&[3, -2])),
     (b"c 3", Wanted::Line(1)),
     (b"c 3 -2\n", Wanted::Values(&[3, -2])),
@@ -57,7 +57,7 @@ const SCALE_ROWS: [Row; 20] = [
 const MANY: &[u8] = b"kernel: many\nburst width: 16\nunroll factor: 1\nparam uint8: a\n\
 param int64: table[2][3]\nparam uint1: bit\ninput int16: x(*)\noutput int16: o(0) = x(0) * table[1][2] + a + bit\n";
 
-const MANY_ROWS: [Row; 4] = [
+const MANY_ROWS: &[Row] = &[
     // The params in another order than the lines.
     (
         b"bit 1\ntable 1 2 3 -4 -5 9223372036854775807\n\na 255\n",
@@ -71,7 +71,7 @@ const MANY_ROWS: [Row; 4] = [
 const NONE: &[u8] = b"kernel: plus\nburst width: 8\nunroll factor: 1\ninput uint8: a(*)\n\
 output uint8: o(0) = a(0) + 1\n";
 
-const NONE_ROWS: [Row; 3] = [
+const NONE_ROWS: &[Row] = &[
     (b"", Wanted::Values(&[])),
     (b"  \n\t\n", Wanted::Values(&[])),
     (b"\n\nc 1\n", Wanted::Line(3)),
@@ -110,11 +110,11 @@ fn first_wrong(alloc: Global, text: &[u8], rows: &[Row]) -> Result<usize, AllocE
 #[test]
 fn params_of_files(rt: HostRuntime) -> Result<(), Fail> {
     assert_eq!(rt;
-        first_wrong(rt.alloc(), SCALE, &SCALE_ROWS)?,
+        first_wrong(rt.alloc(), SCALE, SCALE_ROWS)?,
         SCALE_ROWS.len()
     );
-    assert_eq!(rt; first_wrong(rt.alloc(), MANY, &MANY_ROWS)?, MANY_ROWS.len());
-    assert_eq!(rt; first_wrong(rt.alloc(), NONE, &NONE_ROWS)?, NONE_ROWS.len());
+    assert_eq!(rt; first_wrong(rt.alloc(), MANY, MANY_ROWS)?, MANY_ROWS.len());
+    assert_eq!(rt; first_wrong(rt.alloc(), NONE, NONE_ROWS)?, NONE_ROWS.len());
     Ok(())
 }
 

@@ -16,16 +16,19 @@ type Row = (
 
 const CELLS: &[&[i128]] = &[&[1, 2, 4, 8, 16]];
 
-const ROWS: [Row; 18] = [
-    // A mean of three; no cell, and one alone.
-    (
-        b"kernel: avg\nburst width: 8\nunroll factor: 1\ninput uint8: a(*)\n\
+// A mean of three.
+const MEAN: Row = (
+    b"kernel: avg\nburst width: 8\nunroll factor: 1\ninput uint8: a(*)\n\
 output uint8: o(0) = (a(-1) + a(0) + a(1)) / 3\n",
-        5,
-        CELLS,
-        &[],
-        &[&[0, 2, 4, 9, 0]],
-    ),
+    5,
+    CELLS,
+    &[],
+    &[&[0, 2, 4, 9, 0]],
+);
+
+const ROWS: &[Row] = &[
+    MEAN,
+    // The same of no cell, and of one alone.
     (
         b"kernel: avg\nburst width: 8\nunroll factor: 1\ninput uint8: a(*)\n\
 output uint8: o(0) = (a(-1) + a(0) + a(1)) / 3\n",
@@ -219,14 +222,14 @@ fn first_wrong(alloc: Global, rows: &[Row]) -> Result<usize, AllocError> {
 
 #[test]
 fn arrays_of_programs(rt: HostRuntime) -> Result<(), Fail> {
-    assert_eq!(rt; first_wrong(rt.alloc(), &ROWS)?, ROWS.len());
+    assert_eq!(rt; first_wrong(rt.alloc(), ROWS)?, ROWS.len());
     Ok(())
 }
 
 // What doesn't fit a program is told by the rows themselves: a cell out of range, a row too many, a param too few.
 #[test]
 fn only_what_fits_is_run(rt: HostRuntime) -> Result<(), Fail> {
-    let (text, rows, _, _, _) = ROWS[0];
+    let (text, rows, _, _, _) = MEAN;
     for cells in [[1, 2, 4, 8, 256], [1, 2, 4, 8, -1]] {
         let inputs = made(rt.alloc(), &[&cells])?;
         assert_eq!(rt; run(rt.alloc(), text, rows, &inputs, &[])?.is_none(), true);

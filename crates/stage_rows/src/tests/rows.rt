@@ -28,7 +28,7 @@ type Row = (
     &'static [u8],
 );
 
-const ROWS: [Row; 5] = [
+const ROWS: &[Row] = &[
     // A mean along the second dimension, and one along the first.
     (
         b"kernel: blur\nburst width: 16\nunroll factor: 1\ninput uint16: a(4, *)\n\
@@ -224,6 +224,6 @@ fn first_wrong(alloc: Global, rows: &[Row]) -> Result<usize, AllocError> {
 
 #[test]
 fn staged_programs(rt: HostRuntime) -> Result<(), Fail> {
-    assert_eq!(rt; first_wrong(rt.alloc(), &ROWS)?, ROWS.len());
+    assert_eq!(rt; first_wrong(rt.alloc(), ROWS)?, ROWS.len());
     Ok(())
 }
