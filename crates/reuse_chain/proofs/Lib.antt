@@ -3,3 +3,4 @@ mod Examples
 pub mod Rising
 pub mod OfLane
 pub mod OfAllLanes
+pub mod CallerLemmas

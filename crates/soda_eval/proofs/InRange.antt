@@ -10,19 +10,21 @@ use Rattle.soda_ir.specs.Formula.{Formula, by_formula}
 use Rattle.soda_ir.specs.Points.{linear, listed}
 use Rattle.soda_ir.specs.Program.{PlainProgram, PlainTensor, extents_at, input_types, outputs_of}
 use Rattle.soda_ir.specs.Valid.{IsSound, output_types}
+use Rattle.soda_ir.proofs.CallerLemmas.{IsInput, IsOutput, as_many_outputs, bare_input, input_known, input_there, length-listed, listed-cons, output_at, type_in}
 use Rattle.soda_eval.specs.Arrays.{Given, Stencil, array_cell, cell, formula_at, in_region, outside_cell, type_at, whole}
 use Rattle.soda_eval.specs.Points.{in_box, moved, point}
 use Rattle.soda_eval.specs.Runs.{HasArrays, IsArray, borders_of, cells_at, defined_arrays, run_of, stencil_of}
 use Rattle.soda_eval.specs.Values.{valued}
 use Rattle.soda_eval.proofs.Depth.{depth_means}
-use Rattle.soda_eval.proofs.Ends.{IsBorder, IsInput, IsOutput, as_many_outputs, bare_input, border_at, border_preserves, input_known, input_there, output_at, type_in}
+use Rattle.soda_eval.proofs.Borders.{IsBorder, border_at, border_preserves}
 use Rattle.soda_eval.proofs.Ranked.{rank, ranks, ranks_below}
 
 if_in_range : (t : IntType) (b : Bool) (v w : ℤ) → InRange t v → InRange t w → InRange t (if b then v else w)
 if_in_range t true v w p q = p
 if_in_range t false v w p q = q
 
-get_in_range : (t : IntType) (xs : List ℤ) (k : ℕ) → All (λ v. InRange t v) xs → InRange t (slice_index_or xs k (pos 0))
+-- a cell of an array in range, and what stands past its end
+pub get_in_range : (t : IntType) (xs : List ℤ) (k : ℕ) → All (λ v. InRange t v) xs → InRange t (slice_index_or xs k (pos 0))
 get_in_range t [] k h = zero_in_range t
 get_in_range t (x ∷ xs) zero h = All-head (λ v. InRange t v) x xs h
 get_in_range t (x ∷ xs) (suc k) h = get_in_range t xs k (All-tail (λ v. InRange t v) x xs h)
@@ -40,16 +42,8 @@ array_at n (t ∷ ts) [] j h = absurd h
 array_at n (t ∷ ts) (a ∷ rest) zero h = h.0.in_range
 array_at n (t ∷ ts) (a ∷ rest) (suc j) h = array_at n ts rest j h.1
 
--- a list by numbers begins with the first
-listed-cons : {A : Type 0} → (f : ℕ → A) (n : ℕ) → listed f (suc n) ≡ f 0 ∷ listed (λ k. f (suc k)) n
-listed-cons f zero = refl
-listed-cons f (suc n) = ap (λ xs. xs ++ f (suc n) ∷ []) (listed-cons f n)
-
-length-listed : {A : Type 0} → (f : ℕ → A) (n : ℕ) → length (listed f n) ≡ n
-length-listed f zero = refl
-length-listed f (suc n) = length-append (listed f n) (f n ∷ []) ∙ omega (arith, length-listed f n)
-
-all_listed : (P : ℤ → Type 0) (f : ℕ → ℤ) (n : ℕ) → ((k : ℕ) → P (f k)) → All P (listed f n)
+-- what holds of each value holds of the list
+pub all_listed : (P : ℤ → Type 0) (f : ℕ → ℤ) (n : ℕ) → ((k : ℕ) → P (f k)) → All P (listed f n)
 all_listed P f zero h = All-nil P
 all_listed P f (suc n) h =
     All-append P (listed f n) (f n ∷ []) (all_listed P f n h) (All-cons P (f n) [] (h n) (All-nil P))

@@ -7,7 +7,7 @@ pub mod Depth
 pub mod Numbers
 pub mod From
 pub mod Ranked
-pub mod Ends
+pub mod Borders
 pub mod InRange
 pub mod Readable
 pub mod Examples

@@ -1,5 +1,5 @@
 -- Cell numbers and points.
-use Rattle.std.proofs.Common.{◌≡◌, ℕ, zero, suc, ◌+◌, ◌*◌, ◌/◌, ◌%◌, ◌<◌, true, ◌&&◌, List, [], ◌∷◌, ℤ, pos, negsuc, ◌+ℤ◌, ◌*ℤ◌, unsigned_abs, length, refl, sym, ◌∙◌, ap, arith, rules, int_lt, int_le}
+use Rattle.std.proofs.Common.{◌≡◌, ℕ, zero, suc, ◌+◌, ◌*◌, ◌/◌, ◌%◌, ◌<◌, true, ◌&&◌, List, [], ◌∷◌, ◌++◌, slice_index_or, length-append, ℤ, pos, negsuc, ◌+ℤ◌, ◌*ℤ◌, unsigned_abs, length, refl, sym, ◌∙◌, ap, arith, rules, int_lt, int_le}
 use Rattle.std.proofs.lemmas.Bool.{and_from, and_parts}
 use Rattle.std.proofs.lemmas.Int.{ints}
 use Rattle.std.proofs.lemmas.Nat.{div-add-mod', mod_below, div_below, div-mul-add, mod-mul-add, mul-add-lt}
@@ -72,3 +72,34 @@ linear_moved (n ∷ ns) (d ∷ ds) (e ∷ es) a b =
     let h : linear ns (moved ds es) ≡ linear ns ds +ℤ linear ns es = linear_moved ns ds es (omega arith) (omega arith) in
     let k = scale_add n (linear ns ds) (linear ns es) in
     rw h (rw k (swap4 d e (pos n *ℤ linear ns ds) (pos n *ℤ linear ns es)))
+
+-- the last extent is no matter for a distance
+linear_last : (n : ℕ) (o : List ℤ) → linear (n ∷ []) o ≡ slice_index_or o 0 (pos 0)
+linear_last n [] = refl
+linear_last n (d ∷ ds) = omega (arith, ints)
+
+linear_end : (ns : List ℕ) (a b : ℕ) (o : List ℤ) → linear (ns ++ a ∷ []) o ≡ linear (ns ++ b ∷ []) o
+linear_end [] a b o = linear_last a o ∙ sym (linear_last b o)
+linear_end (n ∷ ns) a b [] = refl
+linear_end (n ∷ ns) a b (d ∷ ds) = ap (λ v. d +ℤ (pos n *ℤ v)) (linear_end ns a b ds)
+
+length-point : (ns : List ℕ) (i : ℕ) → length (point ns i) ≡ length ns
+length-point [] i = refl
+length-point (n ∷ ns) i = omega (arith, length-point ns (i / n))
+
+-- the number of the cell that a read means is found by its distance, where the cell lies in the box
+module _ (ns : List ℕ) (rows i : ℕ) (o : List ℤ) where
+  abbrev ext : List ℕ
+  ext = ns ++ rows ∷ []
+
+  abbrev target : List ℤ
+  target = moved (point ext i) o
+
+  pub read_number : i < size ext → length o ≡ suc (length ns) → in_box ext target ≡ true → pos i +ℤ linear (ns ++ 1 ∷ []) o ≡ pos (unsigned_abs (linear ext target))
+  read_number h l e =
+      let many : length ext ≡ suc (length ns) = omega (arith, length-append ns (rows ∷ [])) in
+      let m : linear ext target ≡ linear ext (point ext i) +ℤ linear ext o = linear_moved ext (point ext i) o (length-point ext i) (l ∙ sym many) in
+      ap (λ v. v +ℤ linear (ns ++ 1 ∷ []) o) (sym (point_there ext i h).1)
+      ∙ ap (λ v. linear ext (point ext i) +ℤ v) (linear_end ns 1 rows o)
+      ∙ sym m
+      ∙ (number_back ext target e).0

@@ -14,7 +14,7 @@ use Rattle.soda_ir.specs.Program.{PlainParam, PlainProgram, PlainTensor}
 use Rattle.soda_ir.specs.Tree.{formula_of}
 use Rattle.soda_ir.specs.Uses.{each_use, formula_is, is_good_cell, is_good_place, is_near}
 use Rattle.soda_ir.specs.Valid.{value_count}
-use Rattle.soda_ir.proofs.CallerLemmas.{formula_of-Cell, formula_of-Par}
+use Rattle.soda_ir.proofs.CallerLemmas.{formula_of-Cell, formula_of-Par, good_there}
 use Rattle.soda_eval.specs.Arrays.{Each}
 use Rattle.soda_eval.specs.Runs.{HasValues, place_types, scope_of, starts_from}
 use Rattle.soda_eval.specs.Values.{IsReadable, Values}
@@ -61,29 +61,16 @@ length-starts : (c : ℕ) (ps : List PlainParam) → length (starts_from c ps) �
 length-starts c [] = refl
 length-starts c (p ∷ ps) = omega (arith, length-starts (c + size p.sizes) ps)
 
--- a test that all formulas pass
-pub formula_good : (test : Formula → Bool) (ts : List PlainTensor) (x : ℕ) (f : Formula) → list_all (formula_is test) ts ≡ true → slice_index_or (map (λ t. t.formula) ts) x None ≡ Some f → test f ≡ true
-formula_good test [] x f e h = cc
-formula_good test (t ∷ ts) zero f e h =
-    sym (ap (λ (o : Option Formula). elim o [ None ↦ true | Some g ↦ test g ]) h) ∙ (and_parts (formula_is test t) (list_all (formula_is test) ts) e).0
-formula_good test (t ∷ ts) (suc x) f e h =
-    formula_good test ts x f (and_parts (formula_is test t) (list_all (formula_is test) ts) e).1 h
-
 module _ (p : PlainProgram) where
   abbrev good : Formula → Bool
   good f = each_use (is_good_cell p) (is_good_place p) f
-
-  tensor_there : (t : ℕ) (o : List ℤ) → is_good_cell p t o ≡ true → t < length p.tensors
-  tensor_there t o e =
-      let dims = length o == suc (length p.extents) in
-      ltb-true t (length p.tensors) (and_parts (nat_lt t (length p.tensors)) dims (and_parts (nat_lt t (length p.tensors) && dims) (is_near o) e).0).0
 
   param_there : (k i : ℕ) → is_good_place p k i ≡ true → k < length p.params
   param_there k i e = get_there (λ (q : PlainParam). nat_lt i (size q.sizes)) p.params k e
 
   -- the tensor of a cell is there, and so is the param of a value
   pub cell_known : (e : Expr) (t : ℕ) (o : ArrayVec ℤ) → e ≡ Cell t o → good (formula_of e) ≡ true → t < length p.tensors
-  cell_known e t o h g = tensor_there t o.items (sym (ap good (ap formula_of h ∙ formula_of-Cell t o)) ∙ g)
+  cell_known e t o h g = good_there p t o.items (sym (ap good (ap formula_of h ∙ formula_of-Cell t o)) ∙ g)
 
   pub param_known : (e : Expr) (k i : ℕ) → e ≡ Par k i → good (formula_of e) ≡ true → k < length p.params
   param_known e k i h g = param_there k i (sym (ap good (ap formula_of h ∙ formula_of-Par k i)) ∙ g)
@@ -95,7 +82,7 @@ module _ (p : PlainProgram) where
     -- what holds of every cell of a tensor that is there holds of each that is read
     pub each_in_range : ((y : ℕ) (o : List ℤ) → y < length p.tensors → IsCellInRange y o) → (f : Formula) → good f ≡ true → Each IsCellInRange f
     each_in_range h (number n) e = tt
-    each_in_range h (read t o) e = h t o (tensor_there t o e)
+    each_in_range h (read t o) e = h t o (good_there p t o e)
     each_in_range h (param k i) e = tt
     each_in_range h (unary op a) e = each_in_range h a e
     each_in_range h (binary op a b) e =
@@ -119,7 +106,7 @@ module _ (p : PlainProgram) where
       -- a formula can be evaluated where what it names is there and in range
       pub readable : (f : Formula) → good f ≡ true → Each IsCellInRange f → IsReadable (scope_of p) cells params f
       readable (number n) e h = tt
-      readable (read t o) e h = (simp length-map (tensor_there t o e), h)
+      readable (read t o) e h = (simp length-map (good_there p t o e), h)
       readable (param k i) e h = param_readable k i e
       readable (unary op a) e h = readable a e h
       readable (binary op a b) e h =

@@ -4,6 +4,7 @@ use Rattle.std.proofs.lemmas.Bool.{and_parts}
 use Rattle.int_types.specs.Ranges.{wrapped}
 use Rattle.int_types.specs.Operators.{unary_value, binary_value, select_value}
 use Rattle.soda_ir.specs.Formula.{Formula, number, read, param, unary, binary, choice, cast}
+use Rattle.soda_eval.specs.Arrays.{Each}
 use Rattle.soda_eval.specs.Values.{Scope, Values, typed, valued}
 use Rattle.soda_ir.specs.Formula.{every}
 
@@ -43,3 +44,27 @@ module _ (test : ℕ → List ℤ → Bool) where
       ∙ ap (λ v. select_value (valued s b params c) (typed s x) v (typed s y) (valued s a params y)) p
       ∙ ap (λ v. select_value (valued s b params c) (typed s x) (valued s b params x) (typed s y) v) q
   valued_same s params a b h (cast t x) e = ap (λ v. wrapped t v) (valued_same s params a b h x e)
+
+-- a fact of each read makes another
+pub each_more : (A B : ℕ → List ℤ → Type 0) → ((t : ℕ) (o : List ℤ) → A t o → B t o) → (f : Formula) → Each A f → Each B f
+each_more A B h (number n) e = tt
+each_more A B h (read t o) e = h t o e
+each_more A B h (param p k) e = tt
+each_more A B h (unary op x) e = each_more A B h x e
+each_more A B h (binary op x y) e = (each_more A B h x e.0, each_more A B h y e.1)
+each_more A B h (choice c x y) e = (each_more A B h c e.0, each_more A B h x e.1, each_more A B h y e.2)
+each_more A B h (cast t x) e = each_more A B h x e
+
+-- a test that each read passes makes a fact of each
+pub each_from : (test : ℕ → List ℤ → Bool) (A : ℕ → List ℤ → Type 0) → ((t : ℕ) (o : List ℤ) → test t o ≡ true → A t o) → (f : Formula) → every test f ≡ true → Each A f
+each_from test A h (number n) e = tt
+each_from test A h (read t o) e = h t o e
+each_from test A h (param p k) e = tt
+each_from test A h (unary op x) e = each_from test A h x e
+each_from test A h (binary op x y) e =
+    let l = and_parts (every test x) (every test y) e in (each_from test A h x l.0, each_from test A h y l.1)
+each_from test A h (choice c x y) e =
+    let l = and_parts (every test c && every test x) (every test y) e in
+    let m = and_parts (every test c) (every test x) l.0 in
+    (each_from test A h c m.0, each_from test A h x m.1, each_from test A h y l.1)
+each_from test A h (cast t x) e = each_from test A h x e

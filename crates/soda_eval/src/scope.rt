@@ -6,8 +6,8 @@ ghost use Rattle.soda_eval.specs.Runs.{scope_of};
 use soda_ir::{Param, Parts, value_count};
 use soda_words::Ty;
 
-/// The type of a tensor.
-pub(crate) fn tensor_type(parts: &Parts, tensor: u32) -> Ty
+/// The type of a tensor that is there.
+pub fn tensor_type(parts: &Parts, tensor: u32) -> Ty
     requires { tensor < length parts.now.tensors }
     ensures { result ≡ slice_index_or (scope_of (plain parts.now)).tensors tensor int32 }
 {

@@ -1,11 +1,14 @@
--- What crates above cite: one level of a tree, lists of values, distances, rounds, and that the live tensors and reads of
--- a sound program can be counted.
-pub use Rattle.soda_ir.proofs.Distance.{distance_bound, linear-empty, near_at, reach-cons, reach_of}
-pub use Rattle.soda_ir.proofs.Groups.{countable}
+-- What crates above cite: one level of a tree, lists of values, tests of reads, distances, inputs and outputs, counts,
+-- rounds, and that the live tensors and reads of a sound program can be counted.
 pub use Rattle.soda_ir.proofs.Counted.{no_output, same_reads, wanted_last, wanted_step}
-pub use Rattle.soda_ir.proofs.Lists.{ext, get-listed, get-listed-past, known_list, length-listed, listed_same}
+pub use Rattle.soda_ir.proofs.Distances.{distance_bound, nonzero, reach_behind, reach_of}
+pub use Rattle.soda_ir.proofs.Ends.{IsInput, IsOutput, as_many_outputs, bare_input, input_bare, input_known, input_there, output_at, type_in, with_number, with_output}
+pub use Rattle.soda_ir.proofs.GoodReads.{every_both, every_weaker, formula_good, good_length, good_near, good_there, near_at, reads_good}
+pub use Rattle.soda_ir.proofs.Groups.{countable}
+pub use Rattle.soda_ir.proofs.Lists.{ext, get-listed, get-listed-past, known_list, length-listed, listed-cons, listed_same}
+pub use Rattle.soda_ir.proofs.Passing.{count_full, count_rises, count_same}
 pub use Rattle.soda_ir.proofs.Reached.{count_below_same, reached_none, reached_step, some_below_same, sum_below_same}
-pub use Rattle.soda_ir.proofs.Settled.{past_last, ready_more, ready_placed}
+pub use Rattle.soda_ir.proofs.Settled.{past_last, place_kept, ready_more, ready_placed}
 use Rattle.std.proofs.Common.{◌≡◌, ℕ, ℤ, refl}
 use Rattle.soda_words.specs.IntType.{IntType}
 use Rattle.soda_words.specs.declared.operators.UnOp.{UnOp}

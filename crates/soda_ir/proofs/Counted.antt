@@ -1,5 +1,5 @@
 -- The marks and counts of one iteration, and of all.
-use Rattle.std.proofs.Common.{◌≡◌, ℕ, zero, suc, ◌+◌, ◌<◌, ◌≤◌, Bool, true, false, not, ◌&&◌, List, [], length, map, slice_index_or, refl, sym, ◌∙◌, ap, arith, add-one, ⊎_elim, if◌then◌else◌, ◌∷◌, ◌++◌, ◌==◌, None, pos}
+use Rattle.std.proofs.Common.{◌≡◌, ℕ, suc, ◌+◌, ◌<◌, ◌≤◌, Bool, true, false, not, ◌&&◌, List, [], length, map, slice_index_or, refl, sym, ◌∙◌, ap, arith, add-one, ⊎_elim, if◌then◌else◌, ◌∷◌, ◌++◌, ◌==◌, None, pos}
 use Rattle.std.specs.List.{list_any}
 use Rattle.std.proofs.lemmas.Bool.{cases_lt}
 use Rattle.std.proofs.lemmas.List.{get_or-map, get_or_past, length-map}
@@ -9,6 +9,7 @@ use Rattle.soda_ir.specs.Points.{listed}
 use Rattle.soda_ir.specs.Program.{PlainProgram, extents_at, preserves}
 use Rattle.soda_ir.specs.Formula.{by_formula}
 use Rattle.soda_ir.proofs.Lists.{ext, get-listed, get-listed-past, length-listed}
+use Rattle.soda_ir.proofs.Passing.{few_below}
 use Rattle.soda_ir.proofs.Reached.{count_below_same, sum_below_same}
 use Rattle.soda_ir.proofs.Settled.{past_last}
 
@@ -22,14 +23,6 @@ wanted_step p l x = refl
 
 pub no_output : (p : PlainProgram) (x : ℕ) → length p.tensors ≤ x → is_output p x ≡ false
 no_output p x h = past_last (λ t. is_output_role t.role) p x h
-
-one_at_most : (b : Bool) (k n : ℕ) → k ≤ n → k + (if b then 1 else 0) ≤ suc n
-one_at_most true k n h = omega arith
-one_at_most false k n h = omega arith
-
-few_below : (f : ℕ → Bool) (n : ℕ) → count_below f n ≤ n
-few_below f zero = omega arith
-few_below f (suc n) = one_at_most (f n) (count_below f n) n (few_below f n)
 
 -- the marks of the outputs are those of what the last iteration is wanted for
 pub outputs_wanted : (p : PlainProgram) (marks : List Bool) → marks ≡ listed (is_output p) (length p.tensors) → (x : ℕ) → slice_index_or marks x false ≡ is_wanted p 0 x

@@ -4,8 +4,11 @@ pub mod Groups
 pub mod FreeNames
 pub mod Counted
 pub mod Reached
-pub mod Distance
+pub mod Distances
 pub mod Sizes
 pub mod Settled
 pub mod Rounds
 pub mod Lists
+pub mod Passing
+pub mod Ends
+pub mod GoodReads

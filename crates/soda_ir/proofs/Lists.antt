@@ -16,6 +16,11 @@ use Rattle.soda_ir.specs.Valid.{has_inputs_first, output_types}
 pub ext : {A B : Type 0} → (f g : A → B) → ((x : A) → f x ≡ g x) → f ≡ g
 ext f g h = λ i x. h x i
 
+-- a list by numbers begins with the first
+pub listed-cons : {A : Type 0} → (f : ℕ → A) (n : ℕ) → listed f (suc n) ≡ f 0 ∷ listed (λ k. f (suc k)) n
+listed-cons f zero = refl
+listed-cons f (suc n) = ap (λ xs. xs ++ f (suc n) ∷ []) (listed-cons f n)
+
 pub length-listed : {A : Type 0} → (f : ℕ → A) (n : ℕ) → length (listed f n) ≡ n
 length-listed f zero = refl
 length-listed f (suc n) = length-append (listed f n) (f n ∷ []) ∙ omega (arith, length-listed f n)

@@ -1,11 +1,12 @@
 -- After as many rounds as there are tensors no round places more.
-use Rattle.std.proofs.Common.{◌≡◌, ℕ, zero, suc, ◌<◌, ◌≤◌, Bool, true, false, ◌&&◌, Option, Some, None, slice_get, length, refl, sym, ◌∙◌, ap, arith, ◌⊎◌, ⊎_elim, inl, inr, if◌then◌else◌}
+use Rattle.std.proofs.Common.{◌≡◌, ℕ, zero, suc, ◌<◌, ◌≤◌, Bool, true, false, ◌&&◌, Option, Some, None, slice_get, length, refl, sym, ◌∙◌, ap, arith, ◌⊎◌, ⊎_elim, inl, inr}
 use Rattle.std.proofs.lemmas.Bool.{and_from, and_parts, cases_lt, false≢true}
 use Rattle.std.proofs.lemmas.Option.{slice_get_past}
 use Rattle.soda_ir.specs.Formula.{by_formula, every}
 use Rattle.soda_ir.specs.Counts.{can_be_placed, count_below, has_place, tensor_is}
 use Rattle.soda_ir.specs.Formula.{Formula, number, read, param, unary, binary, choice, cast}
 use Rattle.soda_ir.specs.Program.{PlainProgram, PlainTensor}
+use Rattle.soda_ir.proofs.Passing.{count_same}
 
 -- no test passes past the last tensor
 pub past_last : (test : PlainTensor → Bool) (p : PlainProgram) (x : ℕ) → length p.tensors ≤ x → tensor_is test p x ≡ false
@@ -40,32 +41,9 @@ module _ (a b : ℕ → Bool) (more : (y : ℕ) → a y ≡ true → b y ≡ tru
   ready_more p x e = tensor_more (slice_get p.tensors x) e
 
 -- a round more keeps what is placed
-kept : (p : PlainProgram) (k x : ℕ) → has_place p k x ≡ true → has_place p (suc k) x ≡ true
-kept p zero x e = absurd (false≢true e)
-kept p (suc k) x e = ready_more (has_place p k) (has_place p (suc k)) (kept p k) p x e
-
--- how many pass one test, and pass another that they pass too
-one_more : (a b : Bool) → (a ≡ true → b ≡ true) → (if a then 1 else 0) ≤ (if b then 1 else 0)
-one_more true true h = omega arith
-one_more true false h = absurd (false≢true (h refl))
-one_more false true h = omega arith
-one_more false false h = omega arith
-
-one_same : (a b : Bool) → (if b then 1 else 0) ≤ (if a then 1 else 0) → b ≡ true → a ≡ true
-one_same true b h e = refl
-one_same false true h e = absurd (omega arith)
-one_same false false h e = e
-
-count_more : (f g : ℕ → Bool) (n : ℕ) → ((x : ℕ) → f x ≡ true → g x ≡ true) → count_below f n ≤ count_below g n
-count_more f g zero h = omega arith
-count_more f g (suc n) h = omega (arith, count_more f g n h, one_more (f n) (g n) (h n))
-
-count_same : (f g : ℕ → Bool) (n : ℕ) → ((x : ℕ) → f x ≡ true → g x ≡ true) → count_below g n ≤ count_below f n → (x : ℕ) → x < n → g x ≡ true → f x ≡ true
-count_same f g zero h l x b e = absurd (omega arith)
-count_same f g (suc n) h l x b e =
-    let front : count_below f n ≤ count_below g n = count_more f g n h in
-    let last : (if f n then 1 else 0) ≤ (if g n then 1 else 0) = one_more (f n) (g n) (h n) in
-    ⊎_elim (λ (m : x < n). count_same f g n h (omega arith) x m e) (λ (m : n ≤ x). let i : x ≡ n = omega arith in ap f i ∙ one_same (f n) (g n) (omega arith) (sym (ap g i) ∙ e)) (cases_lt x n)
+pub place_kept : (p : PlainProgram) (k x : ℕ) → has_place p k x ≡ true → has_place p (suc k) x ≡ true
+place_kept p zero x e = absurd (false≢true e)
+place_kept p (suc k) x e = ready_more (has_place p k) (has_place p (suc k)) (place_kept p k) p x e
 
 count_all : (n : ℕ) → count_below (λ x. true) n ≡ n
 count_all zero = refl
@@ -78,7 +56,7 @@ next_still p k h x e = ready_more (has_place p (suc k)) (has_place p k) h p x e
 -- a round that counts no more places nothing more
 uncounted : (p : PlainProgram) (k : ℕ) → count_below (has_place p (suc k)) (length p.tensors) ≤ count_below (has_place p k) (length p.tensors) → (x : ℕ) → has_place p (suc k) x ≡ true → has_place p k x ≡ true
 uncounted p k l x e =
-    ⊎_elim (λ (b : x < length p.tensors). count_same (has_place p k) (has_place p (suc k)) (length p.tensors) (kept p k) l x b e) (λ (b : length p.tensors ≤ x). absurd (false≢true (sym (past_last _ p x b) ∙ e))) (cases_lt x (length p.tensors))
+    ⊎_elim (λ (b : x < length p.tensors). count_same (has_place p k) (has_place p (suc k)) (length p.tensors) (place_kept p k) l x b e) (λ (b : length p.tensors ≤ x). absurd (false≢true (sym (past_last _ p x b) ∙ e))) (cases_lt x (length p.tensors))
 
 -- after k rounds k tensors are placed, or no round places more
 counted : (p : PlainProgram) (k : ℕ) → (k ≤ count_below (has_place p k) (length p.tensors)) ⊎ ((x : ℕ) → has_place p (suc k) x ≡ true → has_place p k x ≡ true)

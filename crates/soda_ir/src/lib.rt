@@ -23,8 +23,8 @@ pub use make::MakeRefusal;
 pub use params::value_count;
 pub use placing::placed_tensors;
 pub use program::{Border, Param, Parts, Program, Role, Tensor};
-pub use reads::{Read, all_reads};
+pub use reads::{Read, all_reads, distance};
 /// Want of memory.
 pub use std::alloc::AllocError as NoMemory;
-pub use valid::{fill_burst, outputs_fit};
+pub use valid::{fill_burst, outputs_fit, types_in, types_out};
 pub use written::pairs_round;

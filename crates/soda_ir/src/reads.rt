@@ -35,8 +35,8 @@ pub struct Read {
 }
 
 fn product(n: i128, rest: i128) -> i128
-    requires factor { unsigned_abs n ≤ 2 ^ 64 }
-    requires small { unsigned_abs rest ≤ 2 ^ 41 }
+    requires factor { unsigned_abs n ≤ 2 ^ 27 }
+    requires small { unsigned_abs rest ≤ 2 ^ 90 }
     ensures { result ≡ n *ℤ rest }
 {
     n * rest
@@ -44,19 +44,21 @@ fn product(n: i128, rest: i128) -> i128
 
 // One dimension more of a distance.
 fn outward(d: i64, n: u64, rest: i128) -> i128
-    requires { unsigned_abs rest ≤ 2 ^ 41 }
-    ensures { result ≡ d +ℤ (pos n *ℤ rest) }
+    requires factor { n ≤ 2 ^ 27 }
+    requires small { unsigned_abs rest ≤ 2 ^ 90 }
+    ensures value { result ≡ d +ℤ (pos n *ℤ rest) }
+    ensures bound { unsigned_abs result ≤ 2 ^ 63 + n * unsigned_abs rest }
 {
     let along = product(n as i128, rest);
     d as i128 + along
 }
 
-// How far away in the array a cell at an offset stands; the last extent is no matter.
-fn distance(extents: &[u64], offset: &[i64]) -> i128
-    requires near { is_near offset.now ≡ true }
-    requires small { reach extents.now ≤ 2 ^ 26 }
+/// How far away in the array a cell at an offset stands, in cells; the last extent is no matter, and the others are
+/// given.
+pub fn distance(extents: &[u64], offset: &[i64]) -> i128
+    requires { reach extents.now ≤ 2 ^ 26 }
     ensures value { result ≡ linear (extents.now ++ 1 ∷ []) offset.now }
-    ensures bound { unsigned_abs result ≤ most_offset * reach extents.now }
+    ensures bound { unsigned_abs result ≤ 2 ^ 63 * reach extents.now }
 {
     match offset {
         [] => 0,
@@ -73,6 +75,15 @@ fn distance(extents: &[u64], offset: &[i64]) -> i128
     }
 }
 
+// How far away a near cell stands.
+fn near_distance(extents: &[u64], offset: &[i64]) -> i64
+    requires near { is_near offset.now ≡ true }
+    requires small { reach extents.now ≤ 2 ^ 26 }
+    ensures { result ≡ linear (extents.now ++ 1 ∷ []) offset.now }
+{
+    distance(extents, offset) as i64
+}
+
 fn add(reads: &mut Vec<Read>, read: Read) -> Result<(), NoMemory>
     ensures { OnOk result (reads.new.items ≡ reads.old.items ++ read ∷ []) }
 {
@@ -81,7 +92,7 @@ fn add(reads: &mut Vec<Read>, read: Read) -> Result<(), NoMemory>
 }
 
 // Adds the reads of a formula, from the left.
-#[tactic(auto, using(crate::proofs::CallerLemmas::levels, crate::proofs::Distance::joined))]
+#[tactic(auto, using(crate::proofs::CallerLemmas::levels, crate::proofs::Distances::joined))]
 fn collect(expr: &Expr, extents: &[u64], reads: &mut Vec<Read>) -> Result<(), NoMemory>
     requires near { every (λ t o. is_near o) (formula_of expr.now) ≡ true }
     requires small { reach extents.now ≤ 2 ^ 26 }
@@ -92,7 +103,7 @@ fn collect(expr: &Expr, extents: &[u64], reads: &mut Vec<Read>) -> Result<(), No
         Expr::Num(_) => Ok(()),
         Expr::Cell { tensor, offset } => {
             let _dims = offset.len();
-            let offset = distance(extents, offset.as_slice()) as i64;
+            let offset = near_distance(extents, offset.as_slice());
             let read = Read {
                 of: *tensor,
                 offset,

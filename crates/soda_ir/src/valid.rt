@@ -176,6 +176,7 @@ pub(crate) fn have_good_formulas(parts: &Parts) -> bool
     true
 }
 
+// Adds a type, if it is wanted.
 fn push_if(types: &mut Vec<Ty>, wanted: bool, ty: Ty) -> Result<(), NoMemory>
     ensures { OnOk result (types.new.items ≡ types.old.items ++ (if wanted then ty ∷ [] else [])) }
 {
@@ -185,7 +186,8 @@ fn push_if(types: &mut Vec<Ty>, wanted: bool, ty: Ty) -> Result<(), NoMemory>
     Ok(())
 }
 
-fn types_in(alloc: Global, tensors: &[Tensor]) -> Result<Vec<Ty>, NoMemory>
+/// The types of the inputs, in order.
+pub fn types_in(alloc: Global, tensors: &[Tensor]) -> Result<Vec<Ty>, NoMemory>
     ensures { IfOk result (λ types. types.items ≡ input_types (map plain_tensor tensors.now)) }
 {
     let mut types = Vec::new(alloc);
@@ -195,7 +197,8 @@ fn types_in(alloc: Global, tensors: &[Tensor]) -> Result<Vec<Ty>, NoMemory>
     Ok(types)
 }
 
-fn types_out(alloc: Global, tensors: &[Tensor]) -> Result<Vec<Ty>, NoMemory>
+/// The types of the outputs, in order.
+pub fn types_out(alloc: Global, tensors: &[Tensor]) -> Result<Vec<Ty>, NoMemory>
     ensures { IfOk result (λ types. types.items ≡ output_types (map plain_tensor tensors.now)) }
 {
     let mut types = Vec::new(alloc);

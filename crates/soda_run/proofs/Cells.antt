@@ -10,7 +10,7 @@ use Rattle.soda_ir.specs.Formula.{Formula, by_formula, every}
 use Rattle.soda_ir.specs.Points.{listed}
 use Rattle.soda_ir.specs.Program.{PlainProgram, PlainTensor, extents_at}
 use Rattle.soda_ir.specs.Valid.{IsSound, has_formula_if_no_input}
-use Rattle.soda_ir.proofs.CallerLemmas.{get-listed}
+use Rattle.soda_ir.proofs.CallerLemmas.{every_both, get-listed, input_bare}
 use Rattle.soda_eval.specs.Arrays.{Given, IsMeaning, Stencil, array_cell, cell, in_region, outside_cell, type_at}
 use Rattle.soda_eval.specs.Points.{in_box, moved, point}
 use Rattle.soda_eval.specs.Runs.{borders_of, cells_at, scope_of, stencil_of}
@@ -19,34 +19,10 @@ use Rattle.soda_eval.proofs.CallerLemmas.{border_input, by_point, depth_means, e
 use Rattle.time_stages.specs.declared.margins.Margins.{Margins}
 use Rattle.time_stages.specs.Placing.{is_there}
 use Rattle.soda_run.specs.pieces.Filled.{array_of, cell_made, is_kept, made, outside_of}
-use Rattle.soda_run.proofs.Distances.{every_both}
-
--- equal lists
-pub listed_same : {A : Type 0} → (f g : ℕ → A) (n : ℕ) → ((i : ℕ) → i < n → f i ≡ g i) → listed f n ≡ listed g n
-listed_same f g zero h = refl
-listed_same f g (suc n) h =
-    ap (λ xs. xs ++ f n ∷ []) (listed_same f g n (λ i l. h i (omega arith))) ∙ ap (λ v. listed g n ++ v ∷ []) (h n (omega arith))
-
-pub all_listed : (P : ℤ → Type 0) (f : ℕ → ℤ) (n : ℕ) → ((k : ℕ) → P (f k)) → All P (listed f n)
-all_listed P f zero h = All-nil P
-all_listed P f (suc n) h =
-    All-append P (listed f n) (f n ∷ []) (all_listed P f n h) (All-cons P (f n) [] (h n) (All-nil P))
 
 if_same : (b c : Bool) (v v' w w' : ℤ) → b ≡ c → (c ≡ true → v ≡ v') → w ≡ w' → (if b then v else w) ≡ (if c then v' else w')
 if_same b true v v' w w' e h k = ap (λ d. if d then v else w) e ∙ h refl
 if_same b false v v' w w' e h k = ap (λ d. if d then v else w) e ∙ k
-
--- an input has no formula
-bare_by : (o : Option Formula) (r : Bool) → elim o [ None ↦ r | Some f ↦ not r ] ≡ true → r ≡ true → o ≡ None
-bare_by None r e h = refl
-bare_by (Some f) r e h = absurd (false≢true (sym (ap not h) ∙ e))
-
-pub input_bare : (ts : List PlainTensor) (x : ℕ) → list_all has_formula_if_no_input ts ≡ true → elim (slice_get ts x) [ None ↦ false | Some t ↦ is_input_role t.role ] ≡ true → slice_index_or (map (λ t. t.formula) ts) x None ≡ None
-input_bare [] x e h = absurd (false≢true h)
-input_bare (t ∷ ts) zero e h =
-    bare_by t.formula (is_input_role t.role) (and_parts (has_formula_if_no_input t) (list_all has_formula_if_no_input ts) e).0 h
-input_bare (t ∷ ts) (suc x) e h =
-    input_bare ts x (and_parts (has_formula_if_no_input t) (list_all has_formula_if_no_input ts) e).1 h
 
 none_at : (i : ℕ) → slice_index_or [] i (pos 0) ≡ pos 0
 none_at i = get_or_past [] i (pos 0) (omega arith)

@@ -1,8 +1,9 @@
 -- One tensor more of an iteration is filled.
 use Rattle.std.proofs.Common.{◌≡◌, ℕ, suc, ◌+◌, ◌<◌, ◌≢◌, Bool, true, false, ◌&&◌, ◌||◌, ◌==◌, List, [], ◌∷◌, ◌++◌, ℤ, Option, Some, None, length, set, slice_index_or, take, drop, get_or-set_other, get_or-set_same, eq-eqb, refl, sym, ◌∙◌, ap, subst, arith}
 use Rattle.std.proofs.Math.Seq.{drop-cons, take-length}
+use Rattle.std.proofs.Math.Bool.{or-false}
 use Rattle.std.proofs.lemmas.Bool.{and_parts, eqb-true, false≢true, or_left, true≢false}
-use Rattle.std.proofs.lemmas.List.{length-set, set-set, take-append-drop, take_more}
+use Rattle.std.proofs.lemmas.List.{get_or_default, length-set, set-set, take-append-drop, take_more}
 use Rattle.soda_words.specs.IntType.{int32}
 use Rattle.int_types.specs.Ranges.{InRange}
 use Rattle.soda_ir.specs.Counts.{formula_in, is_input}
@@ -11,19 +12,17 @@ use Rattle.soda_ir.specs.Points.{listed}
 use Rattle.soda_ir.specs.Program.{PlainProgram, extents_at}
 use Rattle.soda_ir.specs.Uses.{is_good_cell}
 use Rattle.soda_ir.specs.Valid.{IsSound}
-use Rattle.soda_ir.proofs.CallerLemmas.{length-listed}
+use Rattle.soda_ir.proofs.CallerLemmas.{bare_input, countable, every_both, good_there, length-listed, listed_same, reads_good}
 use Rattle.soda_eval.specs.Arrays.{Given, cell, in_region}
 use Rattle.soda_eval.specs.Points.{point}
 use Rattle.soda_eval.specs.Runs.{IsArray, cells_at, scope_of, stencil_of}
-use Rattle.soda_eval.proofs.CallerLemmas.{bare_input}
+use Rattle.soda_eval.proofs.CallerLemmas.{all_listed, each_from}
 use Rattle.time_stages.specs.declared.margins.Margins.{Margins}
 use Rattle.time_stages.specs.Margins.{no_margins}
 use Rattle.time_stages.specs.Placing.{is_there, placing_order}
 use Rattle.time_stages.proofs.CallerLemmas.{next_at, next_parts, order_behind, order_below, there_push}
 use Rattle.soda_run.specs.pieces.Filled.{AreFilled, Begins, CanFill, array_of, is_kept, made, outside_of}
-use Rattle.soda_run.proofs.Distances.{each_from, every_both, good_there, reads_good}
-use Rattle.soda_run.proofs.Sequence.{default_same}
-use Rattle.soda_run.proofs.Cells.{all_listed, array_of-is, listed_same, made_is_cell, reads_boxed}
+use Rattle.soda_run.proofs.Cells.{array_of-is, made_is_cell, reads_boxed}
 
 -- a list around one of its places
 pub around : (xs : List ℕ) (i : ℕ) → i < length xs → xs ≡ take i xs ++ slice_index_or xs i 0 ∷ drop (suc i) xs
@@ -36,10 +35,6 @@ pub put_filled : (p : PlainProgram) (rows : ℕ) (params : List ℤ) (x : ℕ) (
 put_filled p rows params x m arrays taken put outside cells t o c e =
     e ∙ ap (λ xs. set xs x cells) t ∙ set-set arrays x [] cells
     ∙ ap (set arrays x) (c ∙ ap (λ os. listed (made p rows taken params x m os) (cells_at p rows)) o ∙ ap (λ xs. listed (made p rows xs params x m (outside_of p xs x)) (cells_at p rows)) t)
-
-or_false : (b : Bool) → (b || false) ≡ true → b ≡ true
-or_false true e = refl
-or_false false e = absurd (false≢true e)
 
 module _ (p : PlainProgram) (sound : IsSound p) (rows : ℕ) (g : Given) (params : List ℤ) (margins : List Margins) (b : Begins p rows g params margins) where
   abbrev margin : ℕ → Margins
@@ -81,7 +76,7 @@ module _ (p : PlainProgram) (sound : IsSound p) (rows : ℕ) (g : Given) (params
       low_dims = b.low_dims x below;
       high_dims = b.high_dims x below;
       inside = λ f i e l k. reads_boxed p sound rows g params x f (point (extents_at p rows) i) e (sym (region_kept i) ∙ k);
-      reads = λ f e. each_from (λ y o. is_there p before y && is_good_cell p y o) _ (λ y o h. let both = and_parts (is_there p before y) (is_good_cell p y o) h in subst (IsArray (slice_index_or (scope_of p).tensors y int32) (cells_at p rows)) (sym (kept y both.0)) (array_in_range y (good_there p y o both.1))) f (every_both (λ y o. is_there p before y) (is_good_cell p) f (there f e) (reads_good p sound x f e));
+      reads = λ f e. each_from (λ y o. is_there p before y && is_good_cell p y o) _ (λ y o h. let both = and_parts (is_there p before y) (is_good_cell p y o) h in subst (IsArray (slice_index_or (scope_of p).tensors y int32) (cells_at p rows)) (sym (kept y both.0)) (array_in_range y (good_there p y o both.1))) f (every_both (λ y o. is_there p before y) (is_good_cell p) f (there f e) (reads_good p x f (countable p sound) e));
     }
 
     pub array_whole : length (slice_index_or arrays x []) ≡ cells_at p rows
@@ -110,7 +105,7 @@ module _ (p : PlainProgram) (sound : IsSound p) (rows : ℕ) (g : Given) (params
         ∙ written_is
         ∙ ap (array_of p rows g params) i
     now_by y false e h =
-        let known = or_false (is_there p before y) h in get_or-set_other arrays x y written [] (others y known) ∙ a.filled y known
+        let known = sym (or-false (is_there p before y)) ∙ h in get_or-set_other arrays x y written [] (others y known) ∙ a.filled y known
 
     whole_by : (y : ℕ) (same : Bool) → (x == y) ≡ same → y < length p.tensors → length (slice_index_or (set arrays x written) y []) ≡ cells_at p rows
     whole_by y true e l =
@@ -129,7 +124,7 @@ module _ (p : PlainProgram) (sound : IsSound p) (rows : ℕ) (g : Given) (params
 
 -- the margins of a tensor, as they are found
 pub margin_at : (margins : List Margins) (x : ℕ) (m : Margins) → m ≡ slice_index_or margins x m → x < length margins → m ≡ slice_index_or margins x (no_margins 0)
-margin_at margins x m e l = e ∙ default_same margins x m (no_margins 0) l
+margin_at margins x m e l = e ∙ get_or_default margins x m (no_margins 0) l
 
 -- the order around the place where the loop is
 pub split_at : (p : PlainProgram) (order items : List ℕ) (i : ℕ) → order ≡ placing_order p → items ≡ order → i < length items → placing_order p ≡ take i order ++ slice_index_or items i 0 ∷ drop (suc i) order

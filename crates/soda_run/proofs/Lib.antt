@@ -1,13 +1,9 @@
 pub mod Distances
 pub mod Lines
-pub mod Away
-pub mod Regions
 pub mod Cells
 pub mod Filled
 pub mod Outputs
 pub mod Sequence
 pub mod Begun
 pub mod Exchanged
-pub mod Reached
 pub mod CellCount
-pub mod CallerLemmas

@@ -7,7 +7,7 @@ use Rattle.std.proofs.lemmas.Nat.{div-mul-add, mod-mul-add}
 use Rattle.soda_ir.specs.Points.{listed, size}
 use Rattle.soda_ir.specs.Program.{PlainProgram, extents_at}
 use Rattle.soda_eval.specs.Points.{point}
-use Rattle.soda_ir.proofs.CallerLemmas.{get-listed, length-listed}
+use Rattle.soda_ir.proofs.CallerLemmas.{nonzero, reach_behind}
 use Rattle.time_stages.specs.declared.margins.Margins.{Margins}
 use Rattle.time_stages.specs.Margins.{keeps_away}
 use Rattle.soda_run.specs.pieces.Filled.{is_kept, is_within}
@@ -52,21 +52,8 @@ line_room line lines n cells h e =
     let m : n * suc line ≤ n * lines = mul-le-mul_left n h in omega (arith, m, e)
 
 -- there are no more lines than cells
-nonzero : (n : ℕ) → not (eqb n 0) ≡ true → 0 < n
-nonzero zero e = cc
-nonzero (suc n) e = omega arith
-
-grown : (n s : ℕ) → 0 < n → s ≤ n * s
-grown zero s h = absurd (omega arith)
-grown (suc n) s h = omega arith
-
 pub lines_few : (ns : List ℕ) (rows most : ℕ) → list_all (λ n. not (n == 0)) ns ≡ true → 1 ≤ most → size (ns ++ rows ∷ []) ≤ most → size (drop 1 (ns ++ rows ∷ [])) ≤ most
 lines_few [] rows most e o h = o
 lines_few (n ∷ ns) rows most e o h =
     let some : 0 < n = nonzero n (and_parts (not (eqb n 0)) (list_all (λ m. not (m == 0)) ns) e).0 in
-    omega (arith, grown n (size (ns ++ rows ∷ [])) some, h)
-
--- a list whose cells are known
-pub list_known : (f : ℕ → ℤ) (n : ℕ) (xs : List ℤ) → length xs ≡ n → ((i : ℕ) → i < n → slice_index_or xs i (pos 0) ≡ f i) → xs ≡ listed f n
-list_known f n xs l h =
-    ext_get_or (pos 0) xs (listed f n) (l ∙ sym (length-listed f n)) (λ i m. h i (omega arith) ∙ sym (get-listed f n i (pos 0) (omega arith)))
+    omega (arith, reach_behind n (size (ns ++ rows ∷ [])) some, h)

@@ -1,13 +1,10 @@
-ghost use Rattle.std.specs.Prelude.{◌≡◌, ◌+◌, ◌<◌, ◌^◌, [], ◌∷◌, ◌++◌, None, length, map, slice_index_or, IfOk, OnOk, if◌then◌else◌};
-ghost use Rattle.soda_ir.specs.Counts.{is_output_role};
-ghost use Rattle.soda_ir.specs.Program.{outputs_of, outputs_from, plain, plain_tensor};
+ghost use Rattle.std.specs.Prelude.{◌≡◌, ◌+◌, ◌<◌, ◌^◌, [], None, length, map, slice_index_or};
+ghost use Rattle.soda_ir.specs.Program.{plain, plain_tensor};
 ghost use Rattle.soda_eval.specs.Runs.{borders_from, borders_of};
 ghost use Rattle.soda_run.specs.pieces.Filled.{outside_of};
 
-use crate::NoMemory;
 use soda_ir::{Parts, Tensor};
 use sqlite_items::Items;
-use std::alloc::Global;
 
 // The number among the outputs of the tensor at a place, if it is an output. So many outputs stand before these
 // tensors.
@@ -53,28 +50,4 @@ pub(crate) fn outside<'a>(arrays: &'a [Items<i128>], border: Option<u32>) -> &'a
             Some(array) => array.as_slice(),
         },
     }
-}
-
-// Adds the number of a tensor that is an output.
-fn add_output(numbers: &mut Vec<u32>, tensor: &Tensor, number: u32) -> Result<(), NoMemory>
-    ensures { OnOk result (numbers.new.items
-        ≡ numbers.old.items ++ (if is_output_role tensor.now.role then number ∷ [] else [])) }
-{
-    if tensor.role.is_output() {
-        numbers.push(number)?;
-    }
-    Ok(())
-}
-
-/// The numbers of the outputs, in order.
-pub(crate) fn output_numbers(alloc: Global, parts: &Parts) -> Result<Vec<u32>, NoMemory>
-    requires { length parts.now.tensors < 2 ^ 32 }
-    ensures { IfOk result (λ numbers. numbers.items ≡ outputs_of (plain parts.now)) }
-{
-    let mut numbers = Vec::new(alloc);
-    let tensors = parts.tensors.as_slice();
-    for number in 0..tensors.len() {
-        add_output(&mut numbers, &tensors[number], number as u32)?;
-    }
-    Ok(numbers)
 }

@@ -1,17 +1,17 @@
 ghost use Rattle.std.specs.Prelude.{◌≡◌, ℕ, ◌+◌, ◌*◌, ◌<◌, ◌≤◌, ◌^◌, ◌&&◌, [], drop, length, min, pos, slice_index_or, slice_set, true, replicate};
-ghost use Rattle.soda_words.specs.IntType.{int32};
 ghost use Rattle.soda_words.specs.Limits.{most_cells};
 ghost use Rattle.soda_ir.specs.Points.{listed, size};
 ghost use Rattle.soda_ir.specs.Program.{extents_at, plain};
 ghost use Rattle.soda_eval.specs.Points.{point};
-ghost use Rattle.soda_eval.specs.Runs.{HasValues, cells_at, place_types, scope_of};
+ghost use Rattle.soda_eval.specs.Runs.{HasValues, cells_at, place_types};
 ghost use Rattle.time_stages.specs.Margins.{keeps_away};
 ghost use Rattle.soda_run.specs.pieces.Filled.{CanFill, cell_made, is_kept, is_within, made};
 
 use crate::plain::plain_cell;
 use crate::sizes::{first_of, rest_of, size};
 use int_types::wrap;
-use soda_ir::{Parts, Program};
+use soda_eval::tensor_type;
+use soda_ir::Program;
 use soda_words::Ty;
 use sqlite_items::Items;
 use time_stages::Margins;
@@ -27,13 +27,6 @@ pub(crate) struct Target<'a> {
     pub margins: &'a Margins,
     /// What stands outside its region, cell by cell; past the end that is 0.
     pub outside: &'a [i128],
-}
-
-fn tensor_type(parts: &Parts, tensor: u32) -> Ty
-    requires { tensor < length parts.now.tensors }
-    ensures { result ≡ slice_index_or (scope_of (plain parts.now)).tensors tensor int32 }
-{
-    parts.tensors.as_slice()[tensor as usize].ty
 }
 
 // The cell of a number, and 0 past the last.

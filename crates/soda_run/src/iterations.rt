@@ -1,23 +1,21 @@
 ghost use Rattle.std.specs.Prelude.{◌≡◌, ℕ, ◌-◌, ◌*◌, ◌^◌, ◌<◌, ◌≤◌, suc, [], List, pos, length, map, replicate, slice_index_or, slice_set, IfOk, OnOk, if◌then◌else◌};
 ghost use Rattle.soda_words.specs.Limits.{most_cells};
 ghost use Rattle.soda_ir.specs.Points.{listed, size};
-ghost use Rattle.soda_ir.specs.Program.{extents_at, input_types, outputs_of, plain, preserves};
-ghost use Rattle.soda_ir.specs.Valid.{IsSound};
+ghost use Rattle.soda_ir.specs.Program.{input_types, plain};
 ghost use Rattle.soda_eval.specs.Arrays.{Given};
 ghost use Rattle.soda_eval.specs.Runs.{HasArrays, HasValues, cells_at, place_types, run_of};
-ghost use Rattle.time_stages.specs.Margins.{no_margins};
 ghost use Rattle.time_stages.specs.Placing.{placing_order};
-ghost use Rattle.soda_run.specs.pieces.Filled.{AreFilled, AreMade, Begins, CanFill, IsPlan, made, outside_of};
+ghost use Rattle.soda_run.specs.pieces.Filled.{AreFilled, Begins, CanFill, IsPlan, made, outside_of};
 
 use crate::NoMemory;
-use crate::border::{border_of, output_numbers, outside};
+use crate::border::{border_of, outside};
 use crate::exchange::{exchange, put_back, take_out};
 use crate::fill::Target;
 use crate::sizes::{all_extents, size};
 use soda_ir::{Parts, Program};
 use sqlite_items::Items;
 use std::alloc::Global;
-use time_stages::{Margins, margins_over, placing_order};
+use time_stages::{Margins, first_margins, next_margins, output_numbers, placing_order};
 
 /// What all iterations of a run share.
 #[derive(Drop)]
@@ -148,74 +146,6 @@ fn fill_all(
     }
 }
 
-// A copy of margins.
-fn copied(alloc: Global, margins: &Margins) -> Result<Margins, NoMemory>
-    ensures { IfOk result (λ m. m ≡ margins.now) }
-{
-    let low = Items::from_slice(alloc, margins.low.as_slice())?;
-    let high = Items::from_slice(alloc, margins.high.as_slice())?;
-    Ok(Margins { low, high })
-}
-
-// The margins of these tensors, in order.
-fn margins_at(alloc: Global, numbers: &[u32], margins: &[Margins]) -> Result<Vec<Margins>, NoMemory>
-    requires { (j : ℕ) → j < length numbers.now → slice_index_or numbers.now j 0 < length margins.now }
-    ensures { IfOk result (λ found. found.items ≡ map (λ x. slice_index_or margins.now x (no_margins 0)) numbers.now) }
-{
-    let mut found = Vec::new(alloc);
-    for number in numbers {
-        found.push(copied(alloc, &margins[*number as usize])?)?;
-    }
-    Ok(found)
-}
-
-// The margins of the inputs of the next iteration: none under preserve, and else those of the outputs.
-fn next_inputs(
-    alloc: Global,
-    parts: &Parts,
-    outputs: &[u32],
-    margins: &[Margins],
-) -> Result<Vec<Margins>, NoMemory>
-    requires { (j : ℕ) → j < length outputs.now → slice_index_or outputs.now j 0 < length margins.now }
-    ensures { IfOk result (λ inputs. inputs.items ≡ (if preserves (plain parts.now) then []
-        else map (λ x. slice_index_or margins.now x (no_margins 0)) outputs.now)) }
-{
-    if parts.is_preserved() {
-        Ok(Vec::new(alloc))
-    } else {
-        margins_at(alloc, outputs, margins)
-    }
-}
-
-// The margins of all tensors in the first iteration.
-fn first_margins(alloc: Global, program: &Program, plan: &Plan) -> Result<Vec<Margins>, NoMemory>
-    requires sound { IsSound (plain program.now) }
-    requires order { plan.now.order ≡ placing_order (plain program.now) }
-    ensures { IfOk result (λ margins. AreMade (plain program.now) 0 margins.items) }
-{
-    let margins = margins_over(alloc, program, plan.order.as_slice(), &[])?;
-    Ok(margins)
-}
-
-// The margins of all tensors in the next iteration.
-fn next_margins(
-    alloc: Global,
-    program: &Program,
-    plan: &Plan,
-    margins: &[Margins],
-) -> Result<Vec<Margins>, NoMemory>
-    requires sound { IsSound (plain program.now) }
-    requires order { plan.now.order ≡ placing_order (plain program.now) }
-    requires outputs { plan.now.outputs ≡ outputs_of (plain program.now) }
-    requires made { (t : ℕ) × (suc t < (plain program.now).iterate) × AreMade (plain program.now) t margins.now }
-    ensures { (t : ℕ) → AreMade (plain program.now) t margins.now
-        → IfOk result (λ next. AreMade (plain program.now) (suc t) next.items) }
-{
-    let inputs = next_inputs(alloc, program.parts(), plan.outputs.as_slice(), margins)?;
-    let next = margins_over(alloc, program, plan.order.as_slice(), &inputs)?;
-    Ok(next)
-}
-
 // Runs all iterations over the arrays that the first one begins with.
 fn run_all(
     alloc: Global,
@@ -237,12 +167,14 @@ fn run_all(
         (run_of (plain program.now) rows params.now inputs.now ((plain program.now).iterate - 1)) params.now
         (placing_order (plain program.now)) arrays.new) }
 {
-    let margins = first_margins(alloc, program, plan)?;
+    let order = plan.order.as_slice();
+    let outputs = plan.outputs.as_slice();
+    let margins = first_margins(alloc, program, order)?;
     fill_all(alloc, program, rows, plan, params, &margins, arrays);
     let mut last = margins;
     for done in 0..program.parts().iterate - 1 {
-        exchange(plan.outputs.as_slice(), arrays);
-        last = next_margins(alloc, program, plan, &last)?;
+        exchange(outputs, arrays);
+        last = next_margins(alloc, program, order, outputs, &last)?;
         fill_all(alloc, program, rows, plan, params, &last, arrays);
     }
     Ok(())

@@ -1,10 +1,10 @@
-ghost use Rattle.std.specs.Prelude.{◌≡◌, ◌+◌, ◌*◌, ◌^◌, ◌≤◌, [], ◌∷◌, ◌++◌, pos, ◌+ℤ◌, ◌*ℤ◌, unsigned_abs, slice_index_or};
+ghost use Rattle.std.specs.Prelude.{◌≡◌, ◌^◌, ◌≤◌, [], ◌∷◌, ◌++◌, pos, ◌+ℤ◌, unsigned_abs, slice_index_or};
 ghost use Rattle.soda_ir.specs.Counts.{reach};
 ghost use Rattle.soda_ir.specs.Points.{linear};
 ghost use Rattle.soda_run.specs.pieces.Reads.{numbered};
 
 use soda_eval::Cells;
-use soda_ir::Offset;
+use soda_ir::{Offset, distance};
 use sqlite_items::Items;
 
 /// The cells of whole arrays around a place, found by their distances from it. The extents are all but the last.
@@ -26,46 +26,6 @@ impl<'a> Cells for Spot<'a> {
             tensor,
             number_at(self.place, distance(self.extents, offset.as_slice())),
         )
-    }
-}
-
-fn product(n: i128, rest: i128) -> i128
-    requires factor { unsigned_abs n ≤ 2 ^ 27 }
-    requires small { unsigned_abs rest ≤ 2 ^ 90 }
-    ensures { result ≡ n *ℤ rest }
-{
-    n * rest
-}
-
-// One dimension more of a distance.
-fn outward(d: i64, n: u64, rest: i128) -> i128
-    requires factor { n ≤ 2 ^ 27 }
-    requires small { unsigned_abs rest ≤ 2 ^ 90 }
-    ensures value { result ≡ d +ℤ (pos n *ℤ rest) }
-    ensures bound { unsigned_abs result ≤ 2 ^ 63 + n * unsigned_abs rest }
-{
-    let along = product(n as i128, rest);
-    d as i128 + along
-}
-
-/// How far away in the array a cell at an offset stands, in cells; the last extent is no matter, and the others are given.
-pub fn distance(extents: &[u64], offset: &[i64]) -> i128
-    requires { reach extents.now ≤ 2 ^ 26 }
-    ensures value { result ≡ linear (extents.now ++ 1 ∷ []) offset.now }
-    ensures bound { unsigned_abs result ≤ 2 ^ 63 * reach extents.now }
-{
-    match offset {
-        [] => 0,
-        [d, ds @ ..] => match extents {
-            [] => *d as i128,
-            [n, ns @ ..] => {
-                if *n == 0 {
-                    *d as i128
-                } else {
-                    outward(*d, *n, distance(ns, ds))
-                }
-            }
-        },
     }
 }
 

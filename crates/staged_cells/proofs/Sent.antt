@@ -26,17 +26,14 @@ use Rattle.soda_eval.specs.Arrays.{Each, Given, IsMeaning, Stencil, cell, in_reg
 use Rattle.soda_eval.specs.Points.{in_box, moved, point}
 use Rattle.soda_eval.specs.Runs.{HasValues, borders_from, borders_of, cells_at, run_of, scope_of, stencil_of}
 use Rattle.soda_eval.specs.Values.{valued}
-use Rattle.soda_eval.proofs.CallerLemmas.{IsInput, IsOutput, bare_input, depth_means, input_there, number_back, output_at, rank, ranks, ranks_below, type_in, valued_same}
+use Rattle.soda_ir.proofs.CallerLemmas.{IsInput, IsOutput, bare_input, countable, every_both, every_weaker, good_length, good_there, input_bare, input_there, output_at, reads_good, type_in}
+use Rattle.soda_eval.proofs.CallerLemmas.{depth_means, each_from, number_back, rank, ranks, ranks_below, read_number, valued_same}
 use Rattle.time_stages.specs.declared.staging.StagedTensor.{StagedTensor}
 use Rattle.time_stages.specs.Margins.{keeps_away}
 use Rattle.time_stages.specs.Staged.{number_read, read_by, reads_of, source_of, staged_reads, staged_tensor, staged_tensors, type_of}
-use Rattle.time_stages.proofs.CallerLemmas.{border_is_input, each_staged, get_at, own_margins, own_turn, place_in, place_within, reads_by_it, same_as, source_staged}
-use Rattle.soda_run.proofs.CallerLemmas.{each_from, every_both, good_length, good_there, input_bare, read_number, reads_good, region_margins}
+use Rattle.time_stages.proofs.CallerLemmas.{border_is_input, count_first, each_staged, get_at, own_margins, own_turn, place_in, place_within, reads_by_it, same_as, source_staged, true_or_not}
+use Rattle.region_margins.proofs.CallerLemmas.{region_margins}
 use Rattle.staged_cells.specs.Cells.{IsNumber, PortsHold, cell_at, defined_cell, held, inner_cell, outer_cell, port_of, port_types, reads_by, sent_cell, type_at as staged_type}
-
-true_or_not : (b : Bool) → (b ≡ true) ⊎ (b ≡ false)
-true_or_not true = inl refl
-true_or_not false = inr refl
 
 -- ---- lists
 
@@ -50,20 +47,6 @@ any_weaker f g h (x ∷ xs) e =
     ⊎_elim (λ l. or_left (g x) (list_any g xs) (h x l)) (λ r. or_right (g x) (list_any g xs) (any_weaker f g h xs r)) (or_cases (f x) (list_any f xs) e)
 
 -- ---- each cell that a formula names is among its reads
-
-reads_weaker : (a b : ℕ → List ℤ → Bool) → ((y : ℕ) (o : List ℤ) → a y o ≡ true → b y o ≡ true) → (f : Formula) → every a f ≡ true → every b f ≡ true
-reads_weaker a b h (number n) e = refl
-reads_weaker a b h (read t o) e = h t o e
-reads_weaker a b h (param p k) e = refl
-reads_weaker a b h (unary op x) e = reads_weaker a b h x e
-reads_weaker a b h (binary op x y) e =
-    let both = and_parts (every a x) (every a y) e in
-    and_from (every b x) (every b y) (reads_weaker a b h x both.0) (reads_weaker a b h y both.1)
-reads_weaker a b h (choice c x y) e =
-    let both = and_parts (every a c && every a x) (every a y) e in
-    let first = and_parts (every a c) (every a x) both.0 in
-    and_from (every b c && every b x) (every b y) (and_from (every b c) (every b x) (reads_weaker a b h c first.0) (reads_weaker a b h x first.1)) (reads_weaker a b h y both.1)
-reads_weaker a b h (cast t x) e = reads_weaker a b h x e
 
 abbrev is_read_in : List ℕ → List Reading → ℕ → List ℤ → Bool
 is_read_in ns rs y o = list_any (same_as y (linear ns o)) rs
@@ -88,7 +71,7 @@ own_reads ns (unary op a) = own_reads ns a
 own_reads ns (binary op a b) =
     let x = formula_reads ns a in
     let y = formula_reads ns b in
-    and_from (every (is_read_in ns (x ++ y)) a) (every (is_read_in ns (x ++ y)) b) (reads_weaker (is_read_in ns x) (is_read_in ns (x ++ y)) (in_first ns x y) a (own_reads ns a)) (reads_weaker (is_read_in ns y) (is_read_in ns (x ++ y)) (in_second ns x y) b (own_reads ns b))
+    and_from (every (is_read_in ns (x ++ y)) a) (every (is_read_in ns (x ++ y)) b) (every_weaker (is_read_in ns x) (is_read_in ns (x ++ y)) (in_first ns x y) a (own_reads ns a)) (every_weaker (is_read_in ns y) (is_read_in ns (x ++ y)) (in_second ns x y) b (own_reads ns b))
 own_reads ns (choice c a b) =
     let z = formula_reads ns c in
     let x = formula_reads ns a in
@@ -96,8 +79,8 @@ own_reads ns (choice c a b) =
     let all = z ++ (x ++ y) in
     let test = is_read_in ns all in
     and_from (every test c && every test a) (every test b)
-    (and_from (every test c) (every test a) (reads_weaker (is_read_in ns z) test (in_first ns z (x ++ y)) c (own_reads ns c)) (reads_weaker (is_read_in ns x) test (λ t o h. in_second ns z (x ++ y) t o (in_first ns x y t o h)) a (own_reads ns a)))
-    (reads_weaker (is_read_in ns y) test (λ t o h. in_second ns z (x ++ y) t o (in_second ns x y t o h)) b (own_reads ns b))
+    (and_from (every test c) (every test a) (every_weaker (is_read_in ns z) test (in_first ns z (x ++ y)) c (own_reads ns c)) (every_weaker (is_read_in ns x) test (λ t o h. in_second ns z (x ++ y) t o (in_first ns x y t o h)) a (own_reads ns a)))
+    (every_weaker (is_read_in ns y) test (λ t o h. in_second ns z (x ++ y) t o (in_second ns x y t o h)) b (own_reads ns b))
 own_reads ns (cast t a) = own_reads ns a
 
 -- ---- the borders
@@ -111,10 +94,6 @@ bit b = if b then 1 else 0
 abbrev with_border : Role → ℕ → List PlainTensor → List (Option ℕ)
 with_border r k ts =
     elim r [ Input ↦ None ∷ borders_from k ts | Local ↦ None ∷ borders_from k ts | Output ↦ Some k ∷ borders_from (suc k) ts ]
-
-count_first : (f : ℕ → Bool) (n : ℕ) → count_below f (suc n) ≡ bit (f 0) + count_below (λ x. f (suc x)) n
-count_first f zero = omega arith
-count_first f (suc n) = omega (arith, count_first f n)
 
 -- what stands for a tensor: the number of an output, and nothing for any other
 border_first : (r : Role) (k : ℕ) (ts : List PlainTensor) → slice_index_or (with_border r k ts) 0 None ≡ (if is_output_role r then Some k else None)
@@ -291,7 +270,7 @@ module _ (p : PlainProgram) (sound : IsSound p) (rows : ℕ) (params : List ℤ)
     all_read : every (is_read_in (extents_at p 1) (tensor_reads p s.tensor)) f ≡ true
     all_read =
         let ns = extents_at p 1 in
-        reads_weaker (is_read_in ns (formula_reads ns f)) (is_read_in ns (tensor_reads p s.tensor)) (λ y o h.
+        every_weaker (is_read_in ns (formula_reads ns f)) (is_read_in ns (tensor_reads p s.tensor)) (λ y o h.
         ap (λ rs. is_read_in ns (rs ++ border_reads p s.tensor) y o) (ap (λ k. by_formula k [] (formula_reads ns)) d) ∙ in_first ns (formula_reads ns f) (border_reads p s.tensor) y o h) f (own_reads ns f)
 
     inner_is : region s.tensor q ≡ true → inner_cell p params v s ports ≡ value s.tensor q
@@ -299,7 +278,7 @@ module _ (p : PlainProgram) (sound : IsSound p) (rows : ℕ) (params : List ℤ)
     inner_is r =
         ap (λ h. wrapped (type_of p s.tensor) (by_formula h (pos 0) (valued (scope_of p) (held p v s ports) params))) d
         ∙ ap (wrapped (type_of p s.tensor)) (valued_same test (scope_of p) params (held p v s ports) (λ y o. value y (moved q o)) held_same f
-        (every_both (λ y o. is_good_cell p y o && region y (moved q o)) (is_read_in (extents_at p 1) (tensor_reads p s.tensor)) f (every_both (is_good_cell p) (λ y o. region y (moved q o)) f (reads_good p sound s.tensor f d) (region_parts f q d r)) all_read))
+        (every_both (λ y o. is_good_cell p y o && region y (moved q o)) (is_read_in (extents_at p 1) (tensor_reads p s.tensor)) f (every_both (is_good_cell p) (λ y o. region y (moved q o)) f (reads_good p s.tensor f (countable p sound) d) (region_parts f q d r)) all_read))
         ∙ sym (by_region f q true d r)
 
     -- outside it
@@ -375,11 +354,11 @@ module _ (p : PlainProgram) (sound : IsSound p) (rows : ℕ) (params : List ℤ)
   pub formula_in_range : (ports : List ℤ) → HasValues (port_types p v) ports → (f : Formula) → formula_in p s.tensor ≡ Some f → Each (λ y o. InRange (slice_index_or (scope_of p).tensors y int32) (held p v s ports y o)) f
   formula_in_range ports have f d =
       let ns = extents_at p 1 in
-      let all : every (is_read_in ns (tensor_reads p s.tensor)) f ≡ true = reads_weaker (is_read_in ns (formula_reads ns f)) (is_read_in ns (tensor_reads p s.tensor)) (λ y o h.
+      let all : every (is_read_in ns (tensor_reads p s.tensor)) f ≡ true = every_weaker (is_read_in ns (formula_reads ns f)) (is_read_in ns (tensor_reads p s.tensor)) (λ y o h.
       ap (λ rs. is_read_in ns (rs ++ border_reads p s.tensor) y o) (ap (λ k. by_formula k [] (formula_reads ns)) d) ∙ in_first ns (formula_reads ns f) (border_reads p s.tensor) y o h) f (own_reads ns f) in
       each_from (λ y o. is_good_cell p y o && is_read_in ns (tensor_reads p s.tensor) y o) (λ y o. InRange (slice_index_or (scope_of p).tensors y int32) (held p v s ports y o))
       (λ y o h. let both = and_parts (is_good_cell p y o) (is_read_in ns (tensor_reads p s.tensor) y o) h in held_in_range ports have y (linear ns o) (good_there p y o both.0) both.1)
-      f (every_both (is_good_cell p) (is_read_in ns (tensor_reads p s.tensor)) f (reads_good p sound s.tensor f d) all)
+      f (every_both (is_good_cell p) (is_read_in ns (tensor_reads p s.tensor)) f (reads_good p s.tensor f (countable p sound) d) all)
 
   -- a staged tensor that is no input has a formula
   formula_there : is_input p s.tensor ≡ false → (o : Option Formula) → formula_in p s.tensor ≡ o → (f : Formula) × (formula_in p s.tensor ≡ Some f)

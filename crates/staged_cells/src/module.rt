@@ -10,16 +10,15 @@ ghost use Rattle.soda_eval.specs.Arrays.{Each};
 ghost use Rattle.soda_eval.specs.Runs.{HasValues, cells_at, place_types, scope_of};
 ghost use Rattle.soda_eval.specs.Values.{valued};
 ghost use Rattle.time_stages.specs.declared.staging.StagedTensor.{StagedTensor};
-ghost use Rattle.time_stages.specs.Staged.{number_read, staged, staged_reads, staged_tensors, type_of};
+ghost use Rattle.time_stages.specs.Staged.{number_read, staged, staged_reads, staged_tensors};
 ghost use Rattle.staged_cells.specs.Cells.{PortsHold, defined_cell, port_of, port_types, sent_cell};
 ghost use Rattle.staged_cells.specs.pieces.Ports.{place_in, port_value, sent_at};
 
 use crate::ports::Ports;
 use crate::region::{is_cell, is_kept};
 use int_types::wrap;
-use soda_eval::eval;
+use soda_eval::{eval, tensor_type};
 use soda_ir::{Parts, Program};
-use soda_words::Ty;
 use time_stages::{Staged, number_read};
 
 // Whether a tensor is an output.
@@ -44,14 +43,6 @@ fn output_number(parts: &Parts, tensor: u32) -> u32
         }
     }
     number
-}
-
-// The type of a tensor.
-fn type_of(parts: &Parts, tensor: u32) -> Ty
-    requires { tensor < length parts.now.tensors }
-    ensures { result ≡ type_of (plain parts.now) tensor }
-{
-    parts.tensors.as_slice()[tensor as usize].ty
 }
 
 // The ports of a staged tensor, where they hold these values.
@@ -84,7 +75,8 @@ fn ports_of<'a>(
 fn formula_value(program: &Program, params: &[i128], tensor: u32, ports: &Ports<'_>) -> i128
     requires params { HasValues (place_types (plain program.now).params) params.now }
     requires ports { (f : Formula) → formula_in (plain program.now) tensor ≡ Some f
-        → Each (λ y o. InRange (slice_index_or (scope_of (plain program.now)).tensors y int32) (port_value ports.now y o)) f }
+        → Each (λ y o. InRange (slice_index_or (scope_of (plain program.now)).tensors y int32)
+        (port_value ports.now y o)) f }
     ensures { result ≡ by_formula (formula_in (plain program.now) tensor) (pos 0)
         (valued (scope_of (plain program.now)) (port_value ports.now) params.now) }
 {
@@ -146,7 +138,7 @@ fn sent(
     let ports = ports_of(program, staging, tensor, staged.turn, values);
     if is_kept(parts, staging, rows, tensor, place) {
         let value = formula_value(program, params, staged.tensor, &ports);
-        wrap(type_of(parts, staged.tensor), value)
+        wrap(tensor_type(parts, staged.tensor), value)
     } else {
         border_value(parts, staged.tensor, &ports)
     }
@@ -154,9 +146,9 @@ fn sent(
 
 /// What a computing module of a staged tensor sends for the cell of a number, where its ports hold these values: the
 /// cell where the ports hold the defined cells, whatever those hold whose reads are of no cell; and 0 where there is no
-/// cell of this number. The staged program is that of the program, an array has at most `most_cells` cells, `params` has
-/// the values of all params in order, in range, the tensor is no input, and there is a port for each of its reads in
-/// order, with a value in the range of what is read.
+/// cell of this number. The staged program is that of the program, an array has at most `most_cells` cells, `params`
+/// has the values of all params in order, in range, the tensor is no input, and there is a port for each of its reads
+/// in order, with a value in the range of what is read.
 pub fn cell_of(
     program: &Program,
     staging: &Staged,

@@ -8,8 +8,7 @@ ghost use Rattle.staged_cells.specs.Cells.{port_of};
 
 use delay_net::Read;
 use soda_eval::Cells;
-use soda_ir::{Offset, Parts};
-use soda_run::distance;
+use soda_ir::{Offset, Parts, distance};
 use time_stages::{StagedTensor, number_read};
 
 /// What the ports of a staged tensor hold.
@@ -34,7 +33,8 @@ pub(crate) struct Ports<'a> {
 
 impl<'a> Cells for Ports<'a> {
     ghost value = { λ s t o. slice_index_or s.values.now (port_of s.reads.now s.number
-        (number_read (plain s.parts.now) s.tensors.now s.turn t) (linear (extents_at (plain s.parts.now) 1) o)) (pos 0) };
+        (number_read (plain s.parts.now) s.tensors.now s.turn t) (linear (extents_at (plain s.parts.now) 1) o))
+        (pos 0) };
 
     fn cell(&self, tensor: u32, offset: &Offset) -> i128 {
         self.at(

@@ -95,7 +95,8 @@ pub fn in_region(program: &Program, staging: &Staged, rows: u64, tensor: u32, in
         (point (extents_at (plain program.now) rows) index) }
     ensures region { (s : StagedTensor) (params : List ℤ) (inputs : List (List ℤ))
         → slice_get (staged_tensors (plain program.now)) tensor ≡ Some s
-        → result ≡ is_inside (plain program.now) rows params inputs s (point (extents_at (plain program.now) rows) index) }
+        → result ≡ is_inside (plain program.now) rows params inputs s
+        (point (extents_at (plain program.now) rows) index) }
 {
     is_kept(program.parts(), staging, rows, tensor, index)
 }

@@ -12,11 +12,10 @@ use Rattle.soda_ir.specs.declared.program.Role.{Role}
 use Rattle.soda_ir.specs.declared.program.Role.TheVariants.{Input, Local, Output}
 use Rattle.soda_ir.specs.Program.{PlainProgram, PlainTensor, extents_at, outputs_of, preserves}
 use Rattle.soda_ir.specs.Valid.{IsSound}
-use Rattle.soda_ir.proofs.CallerLemmas.{wanted_step}
+use Rattle.soda_ir.proofs.CallerLemmas.{input_bare, wanted_step}
 use Rattle.time_stages.specs.declared.staging.StagedTensor.{StagedTensor}
 use Rattle.time_stages.specs.Placing.{is_among, is_there, placing_order}
 use Rattle.time_stages.specs.Staged.{inputs_of, is_stage, live_statements, number_of, number_read, staged_statements, staged_tensor, staged_tensors}
-use Rattle.time_stages.proofs.Made.{input_none}
 use Rattle.time_stages.proofs.Order.{among_split, order_all, order_behind, order_below}
 use Rattle.time_stages.proofs.OutputNumbers.{border_is_input, input_numbered, output_is, outputs_below}
 use Rattle.time_stages.proofs.Rounds.{reached_settled}
@@ -172,7 +171,8 @@ no_both Input e h = false≢true h
 no_both Local e h = false≢true e
 no_both Output e h = false≢true e
 
-no_input_output : (ts : List PlainTensor) (x : ℕ) → elim (slice_get ts x) [ None ↦ false | Some t ↦ is_input_role t.role ] ≡ true → elim (slice_get ts x) [ None ↦ false | Some t ↦ is_output_role t.role ] ≡ true → ⊥
+-- no input is an output
+pub no_input_output : (ts : List PlainTensor) (x : ℕ) → elim (slice_get ts x) [ None ↦ false | Some t ↦ is_input_role t.role ] ≡ true → elim (slice_get ts x) [ None ↦ false | Some t ↦ is_output_role t.role ] ≡ true → ⊥
 no_input_output [] x e h = false≢true e
 no_input_output (t ∷ ts) zero e h = no_both t.role e h
 no_input_output (t ∷ ts) (suc x) e h = no_input_output ts x e h
@@ -216,7 +216,7 @@ module _ (p : PlainProgram) (sound : IsSound p) where
   -- an input reads nothing
   pub input_reads : (x : ℕ) → is_input p x ≡ true → tensor_reads p x ≡ []
   input_reads x e =
-      let none : formula_in p x ≡ None = input_none p.tensors x sound.parts.formulas e in
+      let none : formula_in p x ≡ None = input_bare p.tensors x sound.parts.formulas e in
       let output : is_output p x ≡ false = false_from_ne_true (is_output p x) (λ h. no_input_output p.tensors x e h) in
       ap (λ f. by_formula f [] (formula_reads (extents_at p 1)) ++ border_reads p x) none
       ∙ ap (λ b. if preserves p && b then record { of = output_number p x; offset = pos 0 } ∷ [] else []) output

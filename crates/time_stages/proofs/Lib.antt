@@ -1,5 +1,4 @@
 pub mod CallerLemmas
-pub mod Counts
 pub mod Order
 pub mod Steps
 pub mod Numbers

@@ -1,6 +1,7 @@
 -- The margins of tensors: their depth is no matter, they rest on the inputs' alone, and they are made in placing order.
 use Rattle.std.proofs.Common.{◌≡◌, ℕ, zero, suc, ◌+◌, ◌*◌, ◌<◌, ◌≤◌, Bool, true, false, not, ◌&&◌, ◌||◌, ◌==◌, List, [], ◌∷◌, ◌++◌, length, map, set, replicate, Option, Some, None, slice_get, slice_index_or, ℤ, pos, unsigned_abs, nat_le, nat_lt, refl, sym, ◌∙◌, ap, subst, arith, ⊎_elim, length-append}
 use Rattle.std.specs.List.{list_all}
+use Rattle.std.proofs.Math.Bool.{or-false}
 use Rattle.std.proofs.lemmas.Bool.{and_from, and_parts, cases_eq, cases_lt, eqb-true, false≢true, leb-true, ltb-true, or_cases}
 use Rattle.std.proofs.lemmas.List.{get_or_default, get_or_past, get_or-set_other, get_or-set_same, length-replicate, length-set, same_lists}
 use Rattle.soda_ir.specs.Counts.{can_be_placed, formula_in, has_place, is_input, is_input_role}
@@ -9,7 +10,7 @@ use Rattle.soda_ir.specs.Points.{listed}
 use Rattle.soda_ir.specs.Program.{PlainProgram, PlainTensor}
 use Rattle.soda_ir.specs.Uses.{formula_is, is_good_cell, is_near}
 use Rattle.soda_ir.specs.Valid.{IsSound, has_formula_if_no_input}
-use Rattle.soda_ir.proofs.CallerLemmas.{countable, get-listed, get-listed-past, length-listed, past_last}
+use Rattle.soda_ir.proofs.CallerLemmas.{countable, every_both, get-listed, get-listed-past, good_length, good_near, good_there, input_bare, length-listed, past_last, reads_good}
 use Rattle.soda_words.specs.Limits.{most_offset, most_tensors}
 use Rattle.time_stages.specs.declared.margins.Margins.{Margins}
 use Rattle.time_stages.specs.declared.margins.Side.{Side}
@@ -68,17 +69,7 @@ over_one p inputs m h (suc k) x e =
     ∙ by_same (formula_in p x) (inputs x) (inputs x) (formula_margins (dims_of p) (λ y o. needed (m y) o)) (formula_margins (dims_of p) (λ y o. needed (margins_over p inputs k y) o)) (λ n. refl) (λ f d. formula_same (dims_of p) m (margins_over p inputs k) (λ y o. has_place p k y) (λ y o i. over_one p inputs m h k y i) f (formula_passes (every (λ y o. has_place p k y)) p.tensors x f e d))
     ∙ sym (over_step p inputs k x)) (λ (l : length p.tensors ≤ x). absurd (false≢true (sym (past_last (λ t. by_formula t.formula true (every (λ y o. has_place p k y))) p x l) ∙ e))) (cases_lt x (length p.tensors))
 
--- a tensor is an input exactly where it has no formula
-pub input_none : (ts : List PlainTensor) (x : ℕ) → list_all has_formula_if_no_input ts ≡ true → elim (slice_get ts x) [ None ↦ false | Some t ↦ is_input_role t.role ] ≡ true → slice_index_or (map (λ t. t.formula) ts) x None ≡ None
-input_none [] x h e = absurd (false≢true e)
-input_none (t ∷ ts) zero h e =
-    elim t.formula as (λ (o : Option Formula). elim o [ None ↦ is_input_role t.role | Some f ↦ not (is_input_role t.role) ] ≡ true → o ≡ None) [
-      | None ↦ λ d. refl
-      | Some f ↦ λ d. absurd (false≢true (sym (ap not e) ∙ d))
-    ] (and_parts (has_formula_if_no_input t) (list_all has_formula_if_no_input ts) h).0
-input_none (t ∷ ts) (suc x) h e =
-    input_none ts x (and_parts (has_formula_if_no_input t) (list_all has_formula_if_no_input ts) h).1 e
-
+-- a tensor that has no formula is an input
 none_input : (g : Formula → Bool) (ts : List PlainTensor) (x : ℕ) → list_all has_formula_if_no_input ts ≡ true → elim (slice_get ts x) [ None ↦ false | Some t ↦ by_formula t.formula true g ] ≡ true → slice_index_or (map (λ t. t.formula) ts) x None ≡ None → elim (slice_get ts x) [ None ↦ false | Some t ↦ is_input_role t.role ] ≡ true
 none_input g [] x h e d = e
 none_input g (t ∷ ts) zero h e d =
@@ -94,52 +85,12 @@ over_inputs p a b s h (suc k) x e =
     ∙ by_same (formula_in p x) (a x) (b x) (formula_margins (dims_of p) (λ y o. needed (margins_over p a k y) o)) (formula_margins (dims_of p) (λ y o. needed (margins_over p b k y) o)) (λ n. h x (none_input (every (λ y o. has_place p k y)) p.tensors x s.parts.formulas e n)) (λ f d. formula_same (dims_of p) (margins_over p a k) (margins_over p b k) (λ y o. has_place p k y) (λ y o i. over_inputs p a b s h k y i) f (formula_passes (every (λ y o. has_place p k y)) p.tensors x f e d))
     ∙ sym (over_step p b k x)
 
--- the cells that a formula reads are good ones
-formula_good : (test : Formula → Bool) (ts : List PlainTensor) (x : ℕ) (f : Formula) → list_all (formula_is test) ts ≡ true → slice_index_or (map (λ t. t.formula) ts) x None ≡ Some f → test f ≡ true
-formula_good test [] x f h e = absurd (cc)
-formula_good test (t ∷ ts) zero f h e =
-    sym (ap (λ (o : Option Formula). elim o [ None ↦ true | Some g ↦ test g ]) e) ∙ (and_parts (formula_is test t) (list_all (formula_is test) ts) h).0
-formula_good test (t ∷ ts) (suc x) f h e =
-    formula_good test ts x f (and_parts (formula_is test t) (list_all (formula_is test) ts) h).1 e
-
-every_both : (a b : ℕ → List ℤ → Bool) (f : Formula) → every a f ≡ true → every b f ≡ true → every (λ y o. a y o && b y o) f ≡ true
-every_both a b (number n) h k = refl
-every_both a b (read t o) h k = and_from (a t o) (b t o) h k
-every_both a b (param p i) h k = refl
-every_both a b (unary op x) h k = every_both a b x h k
-every_both a b (binary op x y) h k =
-    let m = and_parts (every a x) (every a y) h in
-    let n = and_parts (every b x) (every b y) k in
-    and_from (every (λ y o. a y o && b y o) x) (every (λ y o. a y o && b y o) y) (every_both a b x m.0 n.0) (every_both a b y m.1 n.1)
-every_both a b (choice c x y) h k =
-    let m = and_parts (every a c && every a x) (every a y) h in
-    let m' = and_parts (every a c) (every a x) m.0 in
-    let n = and_parts (every b c && every b x) (every b y) k in
-    let n' = and_parts (every b c) (every b x) n.0 in
-    and_from (every (λ y o. a y o && b y o) c && every (λ y o. a y o && b y o) x) (every (λ y o. a y o && b y o) y) (and_from (every (λ y o. a y o && b y o) c) (every (λ y o. a y o && b y o) x) (every_both a b c m'.0 n'.0) (every_both a b x m'.1 n'.1)) (every_both a b y m.1 n.1)
-every_both a b (cast t x) h k = every_both a b x h k
-
--- a good cell, part by part
-record IsGood (p : PlainProgram) (y : ℕ) (o : List ℤ) : Type 0 where
-  there : y < length p.tensors
-  long : length o ≡ dims_of p
-  near : is_near o ≡ true
-
-good_parts : (p : PlainProgram) (y : ℕ) (o : List ℤ) → is_good_cell p y o ≡ true → IsGood p y o
-good_parts p y o e =
-    let both = and_parts (nat_lt y (length p.tensors) && length o == suc (length p.extents)) (is_near o) e in
-    let first = and_parts (nat_lt y (length p.tensors)) (length o == suc (length p.extents)) both.0 in
-    record {
-      there = ltb-true y (length p.tensors) first.0;
-      long = eqb-true (length o) (suc (length p.extents)) first.1;
-      near = both.1;
-    }
-
-near_at : (o : List ℤ) (d : ℕ) → is_near o ≡ true → unsigned_abs (slice_index_or o d (pos 0)) ≤ most_offset
-near_at [] d e = omega arith
-near_at (x ∷ xs) zero e =
+-- no component of a near cell's offset is further than this
+near_component : (o : List ℤ) (d : ℕ) → is_near o ≡ true → unsigned_abs (slice_index_or o d (pos 0)) ≤ most_offset
+near_component [] d e = omega arith
+near_component (x ∷ xs) zero e =
     leb-true (unsigned_abs x) most_offset (and_parts (nat_le (unsigned_abs x) most_offset) (is_near xs) e).0
-near_at (x ∷ xs) (suc d) e = near_at xs d (and_parts (nat_le (unsigned_abs x) most_offset) (is_near xs) e).1
+near_component (x ∷ xs) (suc d) e = near_component xs d (and_parts (nat_le (unsigned_abs x) most_offset) (is_near xs) e).1
 
 -- the margins that are made, when these are placed
 pub record IsMade (p : PlainProgram) (inputs : ℕ → Margins) (placed : List ℕ) (made : List Margins) : Type 0 where
@@ -160,15 +111,11 @@ none_most : (side : Side) (d most : ℕ) → slice_index_or (side_of side (no_ma
 none_most Low d most = omega arith
 none_most High d most = omega arith
 
-or_none : (i : Bool) → (i || false) ≡ true → i ≡ true
-or_none true e = refl
-or_none false e = e
-
 -- at first those of the inputs are
 pub made_first : (p : PlainProgram) (inputs : ℕ → Margins) (some : ℕ) → IsSound p → ((j : ℕ) → AreMargins (dims_of p) some (inputs j)) → IsMade p inputs [] (listed inputs (length p.tensors))
 made_first p inputs some s good = record {
   long = length-listed inputs (length p.tensors);
-  value = λ y l e. get-listed inputs (length p.tensors) y (no_margins 0) l ∙ sym (over_settled p inputs y (s.placed y l) ∙ ap (λ o. by_formula o (inputs y) (formula_margins (dims_of p) (λ z o. needed (margins_over p inputs (length p.tensors) z) o))) (input_none p.tensors y s.parts.formulas (or_none (is_input p y) e)));
+  value = λ y l e. get-listed inputs (length p.tensors) y (no_margins 0) l ∙ sym (over_settled p inputs y (s.placed y l) ∙ ap (λ o. by_formula o (inputs y) (formula_margins (dims_of p) (λ z o. needed (margins_over p inputs (length p.tensors) z) o))) (input_bare p.tensors y s.parts.formulas (sym (or-false (is_input p y)) ∙ e)));
   dims = λ side y l. ap (λ m. length (side_of side m)) (get-listed inputs (length p.tensors) y (no_margins 0) l) ∙ input_dims (dims_of p) some (inputs y) (good y) side;
   most = λ most h side y d. ⊎_elim (λ (l : y < length p.tensors). omega (arith, ap (λ m. slice_index_or (side_of side m) d 0) (get-listed inputs (length p.tensors) y (no_margins 0) l), input_most (dims_of p) most (inputs y) (h y) side d)) (λ (l : length p.tensors ≤ y). omega (arith, ap (λ m. slice_index_or (side_of side m) d 0) (get-listed-past inputs (length p.tensors) y (no_margins 0) l), none_most side d most)) (cases_lt y (length p.tensors));
 }
@@ -176,7 +123,7 @@ made_first p inputs some s good = record {
 -- the test of each read of a tensor that comes behind these
 good_reads : (p : PlainProgram) (before after : List ℕ) (x : ℕ) (f : Formula) → IsSound p → placing_order p ≡ before ++ x ∷ after → formula_in p x ≡ Some f → every (λ y o. is_there p before y && is_good_cell p y o) f ≡ true
 good_reads p before after x f s e d =
-    every_both (λ y o. is_there p before y) (is_good_cell p) f (order_behind p (length p.tensors) before after x f e d) (formula_good (every (is_good_cell p)) p.tensors x f (countable p s).cells d)
+    every_both (λ y o. is_there p before y) (is_good_cell p) f (order_behind p (length p.tensors) before after x f e d) (reads_good p x f (countable p s) d)
 
 -- one tensor more
 module _ (p : PlainProgram) (inputs : ℕ → Margins) (before after : List ℕ) (x some : ℕ) (made : List Margins) (m : Margins) (s : IsSound p) (good : (j : ℕ) → AreMargins (dims_of p) some (inputs j)) (split : placing_order p ≡ before ++ x ∷ after) (l : x < length p.tensors) (was : IsMade p inputs before made) (is : m ≡ by_formula (formula_in p x) (inputs x) (margins_made made (dims_of p))) where
@@ -186,7 +133,7 @@ module _ (p : PlainProgram) (inputs : ℕ → Margins) (before after : List ℕ)
   new_value : m ≡ margins_over p inputs (length p.tensors) x
   new_value =
       is
-      ∙ by_same (formula_in p x) (inputs x) (inputs x) (margins_made made (dims_of p)) (formula_margins (dims_of p) (λ y o. needed (margins_over p inputs (length p.tensors) y) o)) (λ n. refl) (λ f d. margins_are (dims_of p) made (margins_over p inputs (length p.tensors)) test (λ y o t. let both = and_parts (is_there p before y) (is_good_cell p y o) t in let g = good_parts p y o both.1 in (was.value y g.there both.0, λ side. was.dims side y g.there, g.long)) f (good_reads p before after x f s split d))
+      ∙ by_same (formula_in p x) (inputs x) (inputs x) (margins_made made (dims_of p)) (formula_margins (dims_of p) (λ y o. needed (margins_over p inputs (length p.tensors) y) o)) (λ n. refl) (λ f d. margins_are (dims_of p) made (margins_over p inputs (length p.tensors)) test (λ y o t. let both = and_parts (is_there p before y) (is_good_cell p y o) t in let there = good_there p y o both.1 in (was.value y there both.0, λ side. was.dims side y there, good_length p y o both.1)) f (good_reads p before after x f s split d))
       ∙ sym (over_settled p inputs x (s.placed x l))
 
   new_dims : (side : Side) → length (side_of side m) ≡ dims_of p
@@ -205,7 +152,7 @@ module _ (p : PlainProgram) (inputs : ℕ → Margins) (before after : List ℕ)
   new_most most h side d = omega (arith, ap (λ n. slice_index_or (side_of side n) d 0) is, by_most (formula_in p x) refl)
     where
       near : (y k : ℕ) (o : List ℤ) → test y o ≡ true → unsigned_abs (slice_index_or o k (pos 0)) ≤ most_offset
-      near y k o t = near_at o k (good_parts p y o (and_parts (is_there p before y) (is_good_cell p y o) t).1).near
+      near y k o t = near_component o k (good_near p y o (and_parts (is_there p before y) (is_good_cell p y o) t).1)
 
       made_most : (r : Side) (f : Formula) → formula_in p x ≡ Some f → slice_index_or (side_of r (margins_made made (dims_of p) f)) d 0 ≤ most + most_offset * length before + most_offset
       made_most Low f e = numbers_bound made (most + most_offset * length before) (dims_of p) test (was.most most h) near f (good_reads p before after x f s split e) Low d

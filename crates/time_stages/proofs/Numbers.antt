@@ -5,7 +5,7 @@ use Rattle.std.proofs.lemmas.Int.{ints}
 use Rattle.soda_ir.specs.Formula.{Formula, number, read, param, unary, binary, choice, cast, every}
 use Rattle.soda_ir.specs.Points.{listed}
 use Rattle.soda_words.specs.Limits.{most_offset}
-use Rattle.soda_ir.proofs.CallerLemmas.{get-listed, get-listed-past}
+use Rattle.soda_ir.proofs.CallerLemmas.{get-listed, get-listed-past, listed-cons}
 use Rattle.time_stages.specs.declared.margins.Margins.{Margins}
 use Rattle.time_stages.specs.declared.margins.Side.{Side}
 use Rattle.time_stages.specs.declared.margins.Side.TheVariants.{Low, High}
@@ -17,14 +17,10 @@ pub no_number : (side : Side) (dim : ℕ) → 0 ≡ slice_index_or (side_of side
 no_number Low dim = refl
 no_number High dim = refl
 
--- a list of values begins with the first of them
-listed-cons : {A : Type 0} → (f : ℕ → A) (n : ℕ) → listed f (suc n) ≡ f 0 ∷ listed (λ d. f (suc d)) n
-listed-cons f zero = refl
-listed-cons f (suc n) = ap (λ xs. xs ++ f (suc n) ∷ []) (listed-cons f n)
-
-listed_same : (k n : ℕ) → listed (λ d. k) n ≡ replicate n k
-listed_same k zero = refl
-listed_same k (suc n) = listed-cons (λ d. k) n ∙ ap (λ xs. k ∷ xs) (listed_same k n)
+-- a list of the same value over and over
+listed_alike : (k n : ℕ) → listed (λ d. k) n ≡ replicate n k
+listed_alike k zero = refl
+listed_alike k (suc n) = listed-cons (λ d. k) n ∙ ap (λ xs. k ∷ xs) (listed_alike k n)
 
 listed_greatest : (f g : ℕ → ℕ) (n : ℕ) → listed (λ d. max (f d) (g d)) n ≡ greatest (listed f n) (listed g n)
 listed_greatest f g zero = refl
@@ -72,11 +68,11 @@ module _ (dims : ℕ) (made : List Margins) (b : ℕ → Margins) (test : ℕ �
       listed_greatest f g dims ∙ ap (λ xs. greatest xs (listed g dims)) h ∙ ap (λ ys. greatest (side_of side x) ys) k ∙ sym (side_widest side x y)
 
   side_numbers : (side : Side) (f : Formula) → every test f ≡ true → numbers_of made side dims f ≡ side_of side (formula_margins dims (λ y o. needed (b y) o) f)
-  side_numbers side (number n) e = listed_same 0 dims ∙ sym (side_none side dims)
+  side_numbers side (number n) e = listed_alike 0 dims ∙ sym (side_none side dims)
   side_numbers side (read t o) e =
       let g = good t o e in
       side_needed side (slice_index_or made t (no_margins 0)) o dims (g.1 side) g.2 ∙ ap (λ m. side_of side (needed m o)) g.0
-  side_numbers side (param p k) e = listed_same 0 dims ∙ sym (side_none side dims)
+  side_numbers side (param p k) e = listed_alike 0 dims ∙ sym (side_none side dims)
   side_numbers side (unary op x) e = side_numbers side x e
   side_numbers side (binary op x y) e =
       let both = and_parts (every test x) (every test y) e in

@@ -6,8 +6,7 @@ use Rattle.soda_ir.specs.Counts.{can_be_placed, count_below, formula_in, has_pla
 use Rattle.soda_ir.specs.Formula.{Formula, by_formula, every}
 use Rattle.soda_ir.specs.Program.{PlainProgram, PlainTensor}
 use Rattle.soda_ir.specs.Valid.{IsSound}
-use Rattle.soda_ir.proofs.CallerLemmas.{past_last, ready_more}
-use Rattle.time_stages.proofs.Counts.{count_full, count_rises}
+use Rattle.soda_ir.proofs.CallerLemmas.{count_full, count_rises, past_last, ready_more}
 use Rattle.time_stages.specs.Placing.{first_below, is_among, is_next, is_there, placed_in, placing_order}
 
 -- the first number that passes

@@ -9,19 +9,14 @@ use Rattle.soda_ir.specs.declared.program.Role.TheVariants.{Input, Local, Output
 use Rattle.soda_ir.specs.declared.program.Tensor.{Tensor}
 use Rattle.soda_ir.specs.Counts.{count_below, is_input, is_input_role, is_output, is_output_role, output_number}
 use Rattle.soda_ir.specs.Program.{PlainProgram, PlainTensor, input_types, outputs_from, outputs_of, plain_tensor, preserves}
-use Rattle.soda_ir.specs.Valid.{IsSound, has_inputs_first, output_types}
-
-abbrev input_at : List PlainTensor → ℕ → Bool
-input_at ts x = elim (slice_get ts x) [ None ↦ false | Some t ↦ is_input_role t.role ]
+use Rattle.soda_ir.specs.Valid.{IsSound}
+use Rattle.soda_ir.proofs.CallerLemmas.{IsInput, as_many_outputs, input_known, input_there, type_in, with_number}
 
 abbrev output_at : List PlainTensor → ℕ → Bool
 output_at ts x = elim (slice_get ts x) [ None ↦ false | Some t ↦ is_output_role t.role ]
 
-abbrev with_number : Role → ℕ → List ℕ → List ℕ
-with_number r k xs = elim r [ Input ↦ xs | Local ↦ xs | Output ↦ k ∷ xs ]
-
 -- a count from the first number on
-count_first : (f : ℕ → Bool) (n : ℕ) → count_below f (suc n) ≡ (if f 0 then 1 else 0) + count_below (λ x. f (suc x)) n
+pub count_first : (f : ℕ → Bool) (n : ℕ) → count_below f (suc n) ≡ (if f 0 then 1 else 0) + count_below (λ x. f (suc x)) n
 count_first f zero = omega arith
 count_first f (suc n) = omega (arith, count_first f n)
 
@@ -61,69 +56,6 @@ outputs_are : (k : ℕ) (ts : List PlainTensor) (j : ℕ) → j < length (output
 outputs_are k [] j l = absurd (omega arith)
 outputs_are k (t ∷ ts) j l = output_by t.role k j t ts refl l (λ i h. outputs_are (suc k) ts i h)
 
--- the inputs stand first, and each has its type among theirs
-abbrev with_input : Role → IntType → List IntType → List IntType
-with_input r t ts = elim r [ Input ↦ t ∷ ts | Local ↦ ts | Output ↦ ts ]
-
-abbrev with_output : Role → IntType → List IntType → List IntType
-with_output r t ts = elim r [ Input ↦ ts | Local ↦ ts | Output ↦ t ∷ ts ]
-
-abbrev no_inputs : List PlainTensor → Bool
-no_inputs ts = list_all (λ t. not (is_input_role t.role)) ts
-
-none_input : (ts : List PlainTensor) (x : ℕ) → no_inputs ts ≡ true → input_at ts x ≡ true → ⊥
-none_input [] x e h = false≢true h
-none_input (t ∷ ts) zero e h =
-    false≢true (sym (ap not h) ∙ (and_parts (not (is_input_role t.role)) (no_inputs ts) e).0)
-none_input (t ∷ ts) (suc x) e h =
-    none_input ts x (and_parts (not (is_input_role t.role)) (no_inputs ts) e).1 h
-
-input_first : (r : Role) (t : IntType) (ts : List IntType) → is_input_role r ≡ true → 0 < length (with_input r t ts)
-input_first Input t ts e = omega arith
-input_first Local t ts e = absurd (false≢true e)
-input_first Output t ts e = absurd (false≢true e)
-
-input_next : (r : Role) (t : IntType) (ts : List PlainTensor) (j : ℕ) → (if is_input_role r then has_inputs_first ts else no_inputs ts) ≡ true → input_at ts j ≡ true
-    → (has_inputs_first ts ≡ true → j < length (input_types ts)) → suc j < length (with_input r t (input_types ts))
-input_next Input t ts j e h rest = let k = rest e in omega arith
-input_next Local t ts j e h rest = absurd (none_input ts j e h)
-input_next Output t ts j e h rest = absurd (none_input ts j e h)
-
-input_counted : (ts : List PlainTensor) (j : ℕ) → has_inputs_first ts ≡ true → input_at ts j ≡ true → j < length (input_types ts)
-input_counted [] j e h = absurd (false≢true h)
-input_counted (t ∷ ts) zero e h = input_first t.role t.ty (input_types ts) h
-input_counted (t ∷ ts) (suc j) e h = input_next t.role t.ty ts j e h (λ f. input_counted ts j f h)
-
--- as many tensors as there are inputs are inputs
-none_by : (r : Role) (t : IntType) (ts : List IntType) → not (is_input_role r) ≡ true → with_input r t ts ≡ ts
-none_by Input t ts e = absurd (false≢true e)
-none_by Local t ts e = refl
-none_by Output t ts e = refl
-
-none_type : (ts : List PlainTensor) → no_inputs ts ≡ true → input_types ts ≡ []
-none_type [] e = refl
-none_type (t ∷ ts) e =
-    let parts = and_parts (not (is_input_role t.role)) (no_inputs ts) e in
-    none_by t.role t.ty (input_types ts) parts.0 ∙ none_type ts parts.1
-
-known_first : (r : Role) (t : IntType) (ts : List PlainTensor) → (if is_input_role r then has_inputs_first ts else no_inputs ts) ≡ true
-    → 0 < length (with_input r t (input_types ts)) → is_input_role r ≡ true
-known_first Input t ts e h = refl
-known_first Local t ts e h = absurd (omega (arith, ap length (none_type ts e)))
-known_first Output t ts e h = absurd (omega (arith, ap length (none_type ts e)))
-
-known_next : (r : Role) (t : IntType) (ts : List PlainTensor) (j : ℕ) → (if is_input_role r then has_inputs_first ts else no_inputs ts) ≡ true
-    → suc j < length (with_input r t (input_types ts))
-    → (has_inputs_first ts ≡ true → j < length (input_types ts) → input_at ts j ≡ true) → input_at ts j ≡ true
-known_next Input t ts j e h rest = rest e (omega arith)
-known_next Local t ts j e h rest = absurd (omega (arith, ap length (none_type ts e)))
-known_next Output t ts j e h rest = absurd (omega (arith, ap length (none_type ts e)))
-
-input_known : (ts : List PlainTensor) (j : ℕ) → has_inputs_first ts ≡ true → j < length (input_types ts) → input_at ts j ≡ true
-input_known [] j e h = absurd (omega arith)
-input_known (t ∷ ts) zero e h = known_first t.role t.ty ts e h
-input_known (t ∷ ts) (suc j) e h = known_next t.role t.ty ts j e h (λ f l. input_known ts j f l)
-
 -- there are as many outputs as tensors that are one
 many_by : (r : Role) (k n : ℕ) (xs : List ℕ) → length xs ≡ n → length (with_number r k xs) ≡ (if is_output_role r then 1 else 0) + n
 many_by Input k n xs e = omega arith
@@ -144,16 +76,6 @@ count_up f x (suc n) l e =
     let one : ◌≡◌ {A = ℕ} (if f n then 1 else 0) 1 = ap (λ b. if b then 1 else 0) (sym (ap f i) ∙ e) in
     omega arith) (cases_lt x n)
 
-as_many_by : (r : Role) (k : ℕ) (t : IntType) (xs : List ℕ) (ts : List IntType) → length xs ≡ length ts → length (with_number r k xs) ≡ length (with_output r t ts)
-as_many_by Input k t xs ts e = e
-as_many_by Local k t xs ts e = e
-as_many_by Output k t xs ts e = omega arith
-
-as_many_outputs : (k : ℕ) (ts : List PlainTensor) → length (outputs_from k ts) ≡ length (output_types ts)
-as_many_outputs k [] = refl
-as_many_outputs k (t ∷ ts) =
-    as_many_by t.role k t.ty (outputs_from (suc k) ts) (output_types ts) (as_many_outputs (suc k) ts)
-
 module _ (p : PlainProgram) where
   pub outputs_below : (j : ℕ) → j < length (outputs_of p) → slice_index_or (outputs_of p) j 0 < length p.tensors
   outputs_below j l = let o = outputs_are 0 p.tensors j l in omega (arith, o.is, o.there)
@@ -168,7 +90,8 @@ module _ (p : PlainProgram) where
   -- where the program iterates, each input has an output of its number
   pub input_numbered : IsSound p → p.iterate ≢ 1 → (j : ℕ) → is_input p j ≡ true → j < length (outputs_of p)
   input_numbered sound iterated j e =
-      omega (arith, input_counted p.tensors j sound.ends.inputs_first e, ap length (sound.fits.iterated iterated), as_many_outputs 0 p.tensors)
+      let i : IsInput (input_types p.tensors) j (type_in p.tensors j) = input_there p.tensors j sound.ends.inputs_first e in
+      omega (arith, i.there, ap length (sound.fits.iterated iterated), as_many_outputs 0 p.tensors)
 
   -- under preserve the number of an output is that of an input
   pub border_is_input : IsSound p → preserves p ≡ true → (x : ℕ) → x < length p.tensors → is_output p x ≡ true → is_input p (output_number p x) ≡ true

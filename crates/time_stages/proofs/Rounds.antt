@@ -4,18 +4,12 @@ use Rattle.std.proofs.lemmas.Bool.{and_from, and_parts, cases_lt, false≢true, 
 use Rattle.soda_ir.specs.Counts.{can_be_placed, count_below, has_place, is_reached, some_below, tensor_is}
 use Rattle.soda_ir.specs.Formula.{by_formula, every}
 use Rattle.soda_ir.specs.Program.{PlainProgram}
-use Rattle.soda_ir.proofs.CallerLemmas.{reached_none, reached_step, ready_more, ready_placed, some_below_same}
+use Rattle.soda_ir.proofs.CallerLemmas.{count_full, count_same, place_kept, reached_none, reached_step, ready_more, ready_placed, some_below_same}
 use Rattle.soda_words.proofs.CallerLemmas.{same_tests}
-use Rattle.time_stages.proofs.Counts.{count_full, count_same}
-
--- one round more keeps what is placed
-kept : (p : PlainProgram) (k x : ℕ) → has_place p k x ≡ true → has_place p (suc k) x ≡ true
-kept p zero x e = absurd (false≢true e)
-kept p (suc k) x e = ready_more (has_place p k) (has_place p (suc k)) (kept p k) p x e
 
 pub placed_settled : (p : PlainProgram) (x : ℕ) → can_be_placed p x ≡ tensor_is (λ t. by_formula t.formula true (every (λ y o. can_be_placed p y))) p x
 placed_settled p x =
-    same_tests (can_be_placed p x) (tensor_is (λ t. by_formula t.formula true (every (λ y o. can_be_placed p y))) p x) (kept p (length p.tensors) x) (ready_placed p (can_be_placed p) (λ y e. e) x)
+    same_tests (can_be_placed p x) (tensor_is (λ t. by_formula t.formula true (every (λ y o. can_be_placed p y))) p x) (place_kept p (length p.tensors) x) (ready_placed p (can_be_placed p) (λ y e. e) x)
 
 some_more : (f g : ℕ → Bool) (n : ℕ) → ((y : ℕ) → f y ≡ true → g y ≡ true) → some_below f n ≡ true → some_below g n ≡ true
 some_more f g zero h e = e

@@ -1,23 +1,16 @@
 -- The margins of one iteration after those of the one before.
 use Rattle.std.proofs.Common.{◌≡◌, ◌≢◌, ℕ, zero, suc, ◌+◌, ◌*◌, ◌^◌, ◌<◌, ◌≤◌, Bool, true, false, List, [], ◌∷◌, length, map, slice_index_or, refl, sym, ◌∙◌, ap, subst, arith, ⊎_elim, if◌then◌else◌}
 use Rattle.std.proofs.lemmas.Bool.{cases_lt}
-use Rattle.std.proofs.lemmas.List.{get_or-map, get_or_past, length-map}
+use Rattle.std.proofs.lemmas.List.{get_or_default, get_or-map, get_or_past, length-map}
 use Rattle.soda_ir.specs.Counts.{is_input}
 use Rattle.soda_ir.specs.Points.{listed}
 use Rattle.soda_ir.specs.Program.{PlainProgram, outputs_of, preserves}
 use Rattle.soda_ir.specs.Valid.{IsSound}
 use Rattle.soda_ir.proofs.CallerLemmas.{get-listed, length-listed, listed_same}
 use Rattle.time_stages.specs.declared.margins.Margins.{Margins}
-use Rattle.time_stages.specs.Margins.{AreMargins, dims_of, input_margins, margins_of, margins_over, no_margins}
-use Rattle.time_stages.specs.pieces.Iterations.{AreMade}
+use Rattle.time_stages.specs.Margins.{AreMade, AreMargins, dims_of, input_margins, margins_of, margins_over, no_margins}
 use Rattle.time_stages.proofs.CallerLemmas.{most_margins, none_are_margins, over_inputs}
 use Rattle.time_stages.proofs.OutputNumbers.{input_numbered, outputs_below}
-
--- what stands past the end is no matter for what is there
-pub default_same : {A : Type 0} → (xs : List A) (i : ℕ) (d e : A) → i < length xs → slice_index_or xs i d ≡ slice_index_or xs i e
-default_same [] i d e h = absurd (omega arith)
-default_same (x ∷ xs) zero d e h = refl
-default_same (x ∷ xs) (suc i) d e h = default_same xs i d e (omega arith)
 
 module _ (p : PlainProgram) (sound : IsSound p) where
   first_inputs : (j : ℕ) → input_margins p 0 j ≡ no_margins (dims_of p)
@@ -57,7 +50,7 @@ module _ (p : PlainProgram) (sound : IsSound p) where
     handed_at : (j : ℕ) → j < length (outputs_of p) → slice_index_or (map (λ x. slice_index_or made x (no_margins 0)) (outputs_of p)) j (no_margins (dims_of p)) ≡ slice_index_or made (slice_index_or (outputs_of p) j 0) (no_margins (dims_of p))
     handed_at j l =
         get_or-map (λ x. slice_index_or made x (no_margins 0)) (outputs_of p) j 0 (no_margins (dims_of p)) l
-        ∙ default_same made (slice_index_or (outputs_of p) j 0) (no_margins 0) (no_margins (dims_of p)) (omega (arith, outputs_below p j l, made_many))
+        ∙ get_or_default made (slice_index_or (outputs_of p) j 0) (no_margins 0) (no_margins (dims_of p)) (omega (arith, outputs_below p j l, made_many))
 
     pub handed_from : (q : PlainProgram) (outputs : List ℕ) (inputs : List Margins) → inputs ≡ (if preserves q then [] else map (λ x. slice_index_or made x (no_margins 0)) outputs) → q ≡ p → outputs ≡ outputs_of p → inputs ≡ handed
     handed_from q outputs inputs e same numbers =

@@ -1,6 +1,7 @@
 -- How many staged tensors there are, and sums over them: each live tensor stands among them once.
 use Rattle.std.proofs.Common.{◌≡◌, ℕ, zero, suc, ◌+◌, ◌-◌, ◌<◌, ◌≤◌, Bool, true, false, not, ◌&&◌, ◌||◌, ◌==◌, List, [], ◌∷◌, ◌++◌, length, map, take, drop, get_or, refl, sym, ◌∙◌, ap, arith, ⊎_elim, cond, if◌then◌else◌, add-one, eq-eqb, length-append}
 use Rattle.std.specs.List.{All, filter, sum_by}
+use Rattle.std.proofs.Math.Bool.{or-false}
 use Rattle.std.proofs.lemmas.Bool.{cases_lt, false_from_ne_true, eqb-true}
 use Rattle.std.proofs.lemmas.List.{length-map, take_all, take_more}
 use Rattle.std.proofs.lemmas.List.Elements.{All-head, All-tail, filter-append}
@@ -30,10 +31,6 @@ zeros (suc n) = omega (arith, zeros n)
 apart_from : (x y : ℕ) → (x ≡ y → ⊥) → (x == y) ≡ false
 apart_from x y h = false_from_ne_true (x == y) (λ e. h (eqb-true x y e))
 
-or_no : (b : Bool) → (b || false) ≡ b
-or_no true = refl
-or_no false = refl
-
 at_once : (h e : Bool) (v : ℕ) → h ≡ false → e ≡ true → (if h || e then v else 0) ≡ (if h then v else 0) + v
 at_once true e v a b = absurd (cc)
 at_once false true v a b = omega arith
@@ -44,18 +41,18 @@ sum_with : (h : ℕ → Bool) (v : ℕ → ℕ) (x n : ℕ) → x < n → h x �
 sum_with h v x zero l e = absurd (omega arith)
 sum_with h v x (suc n) l e =
     ⊎_elim (λ (m : x < n).
-    let same : weighed (λ y. h y || x == y) v n ≡ weighed h v n = ap (λ b. if b then v n else 0) (ap (λ c. h n || c) (apart_from x n (λ i. omega arith)) ∙ or_no (h n)) in
+    let same : weighed (λ y. h y || x == y) v n ≡ weighed h v n = ap (λ b. if b then v n else 0) (ap (λ c. h n || c) (apart_from x n (λ i. omega arith)) ∙ or-false (h n)) in
     omega (arith, sum_with h v x n m e)) (λ (m : n ≤ x).
     let i : x ≡ n = omega arith in
     let below : sum_below (weighed (λ y. h y || x == y) v) n ≡ sum_below (weighed h v) n = sum_below_same (weighed (λ y. h y || x == y) v) (weighed h v) n
-    (λ y k. ap (λ b. if b then v y else 0) (ap (λ c. h y || c) (apart_from x y (λ j. omega arith)) ∙ or_no (h y))) in
+    (λ y k. ap (λ b. if b then v y else 0) (ap (λ c. h y || c) (apart_from x y (λ j. omega arith)) ∙ or-false (h y))) in
     let here : weighed (λ y. h y || x == y) v n ≡ weighed h v n + v n = at_once (h n) (x == n) (v n) (sym (ap h i) ∙ e) (eq-eqb x n i) in
     let last : v x ≡ v n = ap v i in
     omega arith) (cases_lt x n)
 
 among_push : (xs : List ℕ) (x y : ℕ) → is_among y (xs ++ x ∷ []) ≡ (is_among y xs || x == y)
 among_push xs x y =
-    list_any-append (λ z. z == y) xs (x ∷ []) ∙ ap (λ b. is_among y xs || b) (or_no (x == y))
+    list_any-append (λ z. z == y) xs (x ∷ []) ∙ ap (λ b. is_among y xs || b) (or-false (x == y))
 
 -- no number stands in the list twice
 abbrev Once : List ℕ → Type 0

@@ -9,10 +9,9 @@ use Rattle.soda_ir.specs.Program.{PlainProgram}
 use Rattle.soda_ir.proofs.CallerLemmas.{get-listed, length-listed}
 use Rattle.time_stages.specs.declared.margins.Margins.{Margins}
 use Rattle.time_stages.specs.declared.staging.StagedTensor.{StagedTensor}
-use Rattle.time_stages.specs.Margins.{margins_of, no_margins}
+use Rattle.time_stages.specs.Margins.{AreMade, margins_of, no_margins}
 use Rattle.time_stages.specs.Placing.{placing_order}
 use Rattle.time_stages.specs.Staged.{inputs_of, live_statements, staged_statements, staged_tensor, staged_tensors}
-use Rattle.time_stages.specs.pieces.Iterations.{AreMade}
 use Rattle.time_stages.specs.pieces.Stages.{stage_at, with_margins}
 use Rattle.time_stages.proofs.Order.{order_below}
 

@@ -1,5 +1,6 @@
 -- Marks of what is there, and the step that they lead to.
 use Rattle.std.proofs.Common.{◌≡◌, ℕ, ◌+◌, ◌<◌, ◌≤◌, Bool, true, false, not, ◌&&◌, ◌||◌, ◌==◌, List, [], ◌∷◌, ◌++◌, length, set, Some, slice_index_or, refl, sym, ◌∙◌, ap, arith, ⊎_elim, add-one, eq-eqb}
+use Rattle.std.proofs.Math.Bool.{or-false}
 use Rattle.std.proofs.lemmas.Bool.{cases_eq, cases_lt, eqb-true, false_from_ne_true, or_right}
 use Rattle.std.proofs.lemmas.List.{get_or-set_other, get_or-set_same}
 use Rattle.soda_ir.specs.Counts.{is_input, is_input_role, tensor_is}
@@ -10,16 +11,12 @@ use Rattle.soda_ir.proofs.CallerLemmas.{ext, get-listed, get-listed-past, past_l
 use Rattle.time_stages.specs.Placing.{first_below, is_next, is_there, placed_in}
 use Rattle.time_stages.proofs.Order.{next_is, placed_more, there_push}
 
-or_no : (b : Bool) → (b || false) ≡ b
-or_no true = refl
-or_no false = refl
-
 -- at first the inputs are marked
 pub marks_first : (p : PlainProgram) (n : ℕ) (marks : List Bool) (placed : List ℕ) → n ≡ length p.tensors → marks ≡ listed (is_input p) n → placed ≡ [] → (x : ℕ) → slice_index_or marks x false ≡ is_there p placed x
 marks_first p n marks placed m e h x =
     ap (λ ms. slice_index_or ms x false) e
     ∙ ⊎_elim (λ (l : x < n). get-listed (is_input p) n x false l) (λ (l : n ≤ x). get-listed-past (is_input p) n x false l ∙ sym (past_last (λ t. is_input_role t.role) p x (omega arith))) (cases_lt x n)
-    ∙ sym (or_no (is_input p x))
+    ∙ sym (or-false (is_input p x))
     ∙ sym (ap (λ xs. is_there p xs x) h)
 
 -- what is next by marks of what is there
@@ -35,4 +32,4 @@ step_order p k t placed e h =
 
 pub step_marks : (p : PlainProgram) (t : ℕ) (placed : List ℕ) (marks : List Bool) → ((x : ℕ) → slice_index_or marks x false ≡ is_there p placed x) → t < length marks → (x : ℕ) → slice_index_or (set marks t true) x false ≡ is_there p (placed ++ t ∷ []) x
 step_marks p t placed marks h l x =
-    ⊎_elim (λ (i : x ≡ t). ap (λ z. slice_index_or (set marks t true) z false) i ∙ get_or-set_same marks t true false l ∙ sym (there_push p placed t x ∙ or_right (is_there p placed x) (t == x) (eq-eqb t x (sym i)))) (λ (i : x ≡ t → ⊥). get_or-set_other marks t x true false i ∙ h x ∙ sym (there_push p placed t x ∙ ap (λ b. is_there p placed x || b) (false_from_ne_true (t == x) (λ e. i (sym (eqb-true t x e)))) ∙ or_no (is_there p placed x))) (cases_eq x t)
+    ⊎_elim (λ (i : x ≡ t). ap (λ z. slice_index_or (set marks t true) z false) i ∙ get_or-set_same marks t true false l ∙ sym (there_push p placed t x ∙ or_right (is_there p placed x) (t == x) (eq-eqb t x (sym i)))) (λ (i : x ≡ t → ⊥). get_or-set_other marks t x true false i ∙ h x ∙ sym (there_push p placed t x ∙ ap (λ b. is_there p placed x || b) (false_from_ne_true (t == x) (λ e. i (sym (eqb-true t x e)))) ∙ or-false (is_there p placed x))) (cases_eq x t)

@@ -1,7 +1,8 @@
 -- Margins: how far a tensor's region keeps from the sides of the box, in each dimension.
-use Rattle.std.specs.Prelude.{◌≡◌, ℕ, zero, suc, ◌≤◌, Bool, true, false, ◌&&◌, List, [], ◌∷◌, length, replicate, max, ℤ, pos, negsuc, ◌+ℤ◌, ◌-ℤ◌, int_le, int_lt, slice_index_or, if◌then◌else◌}
+use Rattle.std.specs.Prelude.{◌≡◌, ℕ, zero, suc, ◌*◌, ◌^◌, ◌≤◌, Bool, true, false, ◌&&◌, List, [], ◌∷◌, length, replicate, max, ℤ, pos, negsuc, ◌+ℤ◌, ◌-ℤ◌, int_le, int_lt, slice_index_or, if◌then◌else◌}
 use Rattle.soda_ir.specs.Counts.{formula_in}
 use Rattle.soda_ir.specs.Formula.{Formula, number, read, param, unary, binary, choice, cast, by_formula}
+use Rattle.soda_ir.specs.Points.{listed}
 use Rattle.soda_ir.specs.Program.{PlainProgram, outputs_of, preserves}
 use Rattle.time_stages.specs.declared.margins.Margins.{Margins}
 
@@ -76,6 +77,11 @@ pub record AreMargins (dims most : ℕ) (m : Margins) : Type 0 where
   pub high_dims : length m.high ≡ dims
   pub low_most : (d : ℕ) → slice_index_or m.low d 0 ≤ most
   pub high_most : (d : ℕ) → slice_index_or m.high d 0 ≤ most
+
+-- the margins of all tensors in the iteration before which so many come
+pub record AreMade (p : PlainProgram) (earlier : ℕ) (margins : List Margins) : Type 0 where
+  pub are : margins ≡ listed (margins_of p earlier) (length p.tensors)
+  pub most : (x : ℕ) → AreMargins (dims_of p) (suc earlier * 2 ^ 24) (slice_index_or margins x (no_margins (dims_of p)))
 
 -- the point keeps that far from all sides of the box
 abbrev pub keeps_away : List ℕ → List ℕ → List ℕ → List ℤ → Bool

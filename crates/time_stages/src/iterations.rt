@@ -1,9 +1,8 @@
 ghost use Rattle.std.specs.Prelude.{◌≡◌, ℕ, ◌<◌, suc, [], length, map, slice_index_or, IfOk, if◌then◌else◌};
 ghost use Rattle.soda_ir.specs.Program.{outputs_of, plain, preserves};
 ghost use Rattle.soda_ir.specs.Valid.{IsSound};
-ghost use Rattle.time_stages.specs.Margins.{no_margins};
+ghost use Rattle.time_stages.specs.Margins.{AreMade, no_margins};
 ghost use Rattle.time_stages.specs.Placing.{placing_order};
-ghost use Rattle.time_stages.specs.pieces.Iterations.{AreMade};
 
 use crate::NoMemory;
 use crate::margins::{Margins, copied, margins_over};
@@ -40,8 +39,9 @@ fn next_inputs(
     }
 }
 
-/// The margins of all tensors in the first iteration. The order is the placing order.
-pub(crate) fn first_margins(
+/// The margins of all tensors in the first iteration, in number order. The order is the placing order, and the program
+/// is sound. The only error is want of memory.
+pub fn first_margins(
     alloc: Global,
     program: &Program,
     order: &[u32],
@@ -54,9 +54,9 @@ pub(crate) fn first_margins(
     Ok(margins)
 }
 
-/// The margins of all tensors in the next iteration. The order is the placing order, and the outputs are in number
-/// order.
-pub(crate) fn next_margins(
+/// The margins of all tensors in the next iteration, in number order, from those of one that isn't the last. The order
+/// is the placing order, the outputs are in number order, and the program is sound. The only error is want of memory.
+pub fn next_margins(
     alloc: Global,
     program: &Program,
     order: &[u32],

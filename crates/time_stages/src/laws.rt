@@ -73,10 +73,11 @@ pub fn counts_are_lengths()
     ensures reads { (p : PlainProgram) → IsSound p → length (staged_reads p) ≡ read_count p }
 {}
 
-/// The staged program of a valid program makes a net, where each type has a width: each read is of an earlier tensor by a
-/// later one, at a small offset.
+/// The staged program of a valid program makes a net, where each type has a width: each read is of an earlier tensor by
+/// a later one, at a small offset.
 pub fn staging_makes_a_net()
-    ensures { (p : PlainProgram) → IsValid p → All IsWidth (staged_widths p) → IsNet (staged_widths p) (staged_reads p) }
+    ensures { (p : PlainProgram) → IsValid p → All IsWidth (staged_widths p)
+        → IsNet (staged_widths p) (staged_reads p) }
 {}
 
 /// Each staged tensor is one of the program's in one of its iterations, and has the margins of that iteration.
@@ -87,8 +88,8 @@ pub fn staged_tensors_keep_margins()
         → (1 ≤ s.turn) × (s.turn ≤ p.iterate) × (s.tensor < length p.tensors) }
 {}
 
-/// What a staged tensor reads is staged before it, and each read of its formula is one of its reads, which stand in order
-/// among those of all.
+/// What a staged tensor reads is staged before it, and each read of its formula is one of its reads, which stand in
+/// order among those of all.
 pub fn reads_are_staged()
     ensures sources { (p : PlainProgram) (v : ℕ) (s : StagedTensor) (y : ℕ) → IsSound p
         → slice_get (staged_tensors p) v ≡ Some s → does_read p s.tensor y ≡ true

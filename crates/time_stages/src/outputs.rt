@@ -17,8 +17,8 @@ fn add_output(numbers: &mut Vec<u32>, tensor: &Tensor, number: u32) -> Result<()
     Ok(())
 }
 
-/// The numbers of the outputs, in order.
-pub(crate) fn output_numbers(alloc: Global, parts: &Parts) -> Result<Vec<u32>, NoMemory>
+/// The numbers of the outputs, in order. The only error is want of memory.
+pub fn output_numbers(alloc: Global, parts: &Parts) -> Result<Vec<u32>, NoMemory>
     requires { length parts.now.tensors < 2 ^ 32 }
     ensures { IfOk result (λ numbers. numbers.items ≡ outputs_of (plain parts.now)) }
 {

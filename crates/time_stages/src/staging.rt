@@ -2,8 +2,8 @@ ghost use Rattle.std.specs.Prelude.{◌≡◌, ℕ, ◌-◌, ◌<◌, ◌≤◌,
 ghost use Rattle.soda_words.specs.Limits.{most_live};
 ghost use Rattle.soda_ir.specs.Points.{listed};
 ghost use Rattle.soda_ir.specs.Program.{plain};
+ghost use Rattle.time_stages.specs.Margins.{AreMade};
 ghost use Rattle.time_stages.specs.Staged.{inputs_of, live_statements, staged, staged_tensor, staged_tensors};
-ghost use Rattle.time_stages.specs.pieces.Iterations.{AreMade};
 ghost use Rattle.time_stages.specs.pieces.Stages.{IsFrame, stage_at, with_margins};
 
 use crate::NoMemory;

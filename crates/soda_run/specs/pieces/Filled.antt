@@ -1,5 +1,5 @@
 -- The arrays of one iteration while they are filled, and what is written into them.
-use Rattle.std.specs.Prelude.{◌≡◌, ℕ, suc, ◌*◌, ◌^◌, ◌<◌, ◌&&◌, Bool, true, List, [], length, Some, None, ℤ, pos, ◌+ℤ◌, int_le, int_lt, slice_index_or, if◌then◌else◌}
+use Rattle.std.specs.Prelude.{◌≡◌, ℕ, ◌<◌, ◌&&◌, Bool, true, List, [], length, Some, None, ℤ, pos, ◌+ℤ◌, int_le, int_lt, slice_index_or, if◌then◌else◌}
 use Rattle.soda_words.specs.IntType.{int32}
 use Rattle.int_types.specs.Ranges.{InRange, wrapped}
 use Rattle.soda_ir.specs.Counts.{formula_in}
@@ -12,7 +12,7 @@ use Rattle.soda_eval.specs.Points.{in_box, moved, point}
 use Rattle.soda_eval.specs.Runs.{IsArray, borders_of, cells_at, scope_of, stencil_of}
 use Rattle.soda_eval.specs.Values.{valued}
 use Rattle.time_stages.specs.declared.margins.Margins.{Margins}
-use Rattle.time_stages.specs.Margins.{AreMargins, dims_of, keeps_away, margins_of, no_margins}
+use Rattle.time_stages.specs.Margins.{dims_of, keeps_away, no_margins}
 use Rattle.time_stages.specs.Placing.{is_there, placing_order}
 use Rattle.soda_run.specs.declared.iterations.Plan.{Plan}
 
@@ -74,11 +74,6 @@ pub record Begins (p : PlainProgram) (rows : ℕ) (g : Given) (params : List ℤ
       (slice_index_or margins x (no_margins 0)).high q
   pub in_range : (x : ℕ) (q : List ℤ) → x < length p.tensors
       → InRange (type_at (stencil_of p rows) x) (cell (stencil_of p rows) g params (length p.tensors) x q)
-
--- the margins of all tensors in the iteration before which so many come
-pub record AreMade (p : PlainProgram) (earlier : ℕ) (margins : List Margins) : Type 0 where
-  pub are : margins ≡ listed (margins_of p earlier) (length p.tensors)
-  pub most : (x : ℕ) → AreMargins (dims_of p) (suc earlier * 2 ^ 24) (slice_index_or margins x (no_margins (dims_of p)))
 
 -- what all iterations of a run over so many rows share, where the program is sound
 pub record IsPlan (p : PlainProgram) (rows : ℕ) (plan : Plan) : Type 0 where

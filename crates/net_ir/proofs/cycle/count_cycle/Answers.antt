@@ -1,12 +1,9 @@
 use Rattle.std.proofs.Common.{◌≡◌, ◌≤◌, ◌&&◌, not, Bool, true, false, cond, ◌∙◌, sym, ap, subst, refl, arith}
+use Rattle.std.proofs.lemmas.Bool.{cond_both}
 use Rattle.net_ir.specs.States.{Machine, has_firing, Run}
 use Rattle.net_ir.specs.CycleRun.{IsBetween, fires, visit, met, fired_among, held_among}
 use Rattle.net_ir.proofs.CycleSteps.{Amid-met, met_one, fired_one, held_one}
 use Rattle.net_ir.proofs.cycle.count_cycle.Goals as goal
-
-at_most : (b : Bool) → cond b 1 0 ≤ 1
-at_most true = omega arith
-at_most false = omega arith
 
 pub loop-module-init : goal.loop-module-init
 unfolding met fired_among held_among
@@ -25,6 +22,7 @@ loop-module-preserved c =
     let old : Machine = c.args.counts.now in
     let stalled = c.args.stalled.now in
     let m = c.loop-module.module in
+    let at_most : (b : Bool) → cond b 1 0 ≤ 1 = λ b. cond_both b 1 0 (λ n. n ≤ 1) (λ e. omega arith) (λ e. omega arith) in
     let here = met net old.firings stalled old.state m in
     let now : Machine = record { network = old.network; firings = old.firings; state = here } in
     let state = subst (λ (x : Machine). c.visit-one.new.counts

@@ -1,5 +1,6 @@
 use Rattle.soda_ir.specs.Uses.{each_use, is_good_cell, is_good_place}
-use Rattle.soda_eval.proofs.Readable.{each_in_range, formula_good, readable}
+use Rattle.soda_ir.proofs.CallerLemmas.{formula_good}
+use Rattle.soda_eval.proofs.Readable.{each_in_range, readable}
 use Rattle.soda_eval.proofs.laws.formulas_are_readable.Goals as goal
 
 pub returns : goal.returns

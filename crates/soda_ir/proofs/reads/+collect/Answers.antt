@@ -1,6 +1,6 @@
 use Rattle.std.proofs.Common.{arith}
 use Rattle.soda_ir.proofs.CallerLemmas.{levels}
-use Rattle.soda_ir.proofs.Distance.{joined}
+use Rattle.soda_ir.proofs.Distances.{joined}
 use Rattle.soda_ir.proofs.reads.+collect.Goals as goal
 
 pub returns-in-Num : goal.returns-in-Num

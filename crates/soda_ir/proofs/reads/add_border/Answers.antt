@@ -1,5 +1,5 @@
 use Rattle.soda_ir.specs.Program.{plain}
-use Rattle.soda_ir.proofs.Distance.{border_not_there, border_there, on_ok}
+use Rattle.soda_ir.proofs.Distances.{border_not_there, border_there, on_ok}
 use Rattle.soda_ir.proofs.reads.add_border.Goals as goal
 
 pub returns-else-has_border : goal.returns-else-has_border

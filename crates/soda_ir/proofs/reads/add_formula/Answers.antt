@@ -1,7 +1,8 @@
 use Rattle.std.proofs.Common.{sym}
 use Rattle.soda_ir.specs.Program.{plain}
 use Rattle.soda_ir.specs.Tree.{formula_of}
-use Rattle.soda_ir.proofs.Distance.{near_at, reach_of}
+use Rattle.soda_ir.proofs.Distances.{reach_of}
+use Rattle.soda_ir.proofs.GoodReads.{near_at}
 use Rattle.soda_ir.proofs.reads.add_formula.Goals as goal
 
 pub collect-requires-clause-near : goal.collect-requires-clause-near

@@ -1,7 +1,8 @@
 use Rattle.soda_ir.specs.Program.{plain}
 use Rattle.soda_eval.specs.Runs.{run_of}
+use Rattle.time_stages.specs.Margins.{AreMade}
 use Rattle.time_stages.specs.Placing.{placing_order}
-use Rattle.soda_run.specs.pieces.Filled.{AreFilled, AreMade}
+use Rattle.soda_run.specs.pieces.Filled.{AreFilled}
 use Rattle.soda_run.proofs.iterations.run_all.Given as goal
 
 abbrev pub invariant-loop-done : goal.invariant-loop-done

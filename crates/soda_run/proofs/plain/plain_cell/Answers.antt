@@ -8,13 +8,11 @@ use Rattle.soda_ir.specs.Formula.{by_formula}
 use Rattle.soda_ir.specs.Program.{extents_at, plain}
 use Rattle.soda_ir.specs.Tree.{formula_of}
 use Rattle.soda_ir.specs.Uses.{each_use, is_good_cell, is_good_place}
-use Rattle.soda_ir.proofs.CallerLemmas.{countable}
-use Rattle.soda_ir.proofs.CallerLemmas.{reach_of}
+use Rattle.soda_ir.proofs.CallerLemmas.{countable, formula_good, reach_of}
 use Rattle.soda_eval.specs.Arrays.{array_cell}
 use Rattle.soda_eval.specs.Points.{moved, point}
 use Rattle.soda_eval.specs.Runs.{scope_of}
 use Rattle.soda_eval.specs.Values.{valued}
-use Rattle.soda_eval.proofs.CallerLemmas.{formula_good}
 use Rattle.soda_run.specs.pieces.Reads.{numbered}
 use Rattle.soda_run.proofs.Distances.{reads_in_range, value_read}
 use Rattle.soda_run.proofs.plain.plain_cell.Goals as goal

@@ -1,7 +1,8 @@
 use Rattle.std.proofs.Common.{◌≡◌, ◌≢◌, ◌<◌, ℕ, [], List, length, map, slice_index_or, sym, ap, ◌∙◌, subst, arith, Result, Ok, Err, IfOk}
 use Rattle.soda_ir.specs.Program.{outputs_of, plain}
 use Rattle.soda_eval.specs.Runs.{defined_arrays}
-use Rattle.soda_run.proofs.Outputs.{outputs_apart, outputs_below}
+use Rattle.time_stages.proofs.CallerLemmas.{outputs_below}
+use Rattle.soda_run.proofs.Outputs.{outputs_apart}
 use Rattle.soda_run.proofs.Sequence.{last_arrays}
 use Rattle.soda_run.proofs.plain.plain_run.Goals as goal
 

@@ -4,7 +4,7 @@ use Rattle.soda_ir.specs.Counts.{formula_in}
 use Rattle.soda_ir.specs.Program.{plain}
 use Rattle.soda_ir.specs.Tree.{formula_of}
 use Rattle.soda_ir.specs.Uses.{each_use, is_good_cell, is_good_place}
-use Rattle.soda_eval.proofs.CallerLemmas.{formula_good}
+use Rattle.soda_ir.proofs.CallerLemmas.{formula_good}
 use Rattle.staged_cells.proofs.module.formula_value.Goals as goal
 
 pub eval-requires-clause-uses : goal.eval-requires-clause-uses

@@ -34,8 +34,8 @@ formula_value-value-requires-clause-ports c = λ f d.
     subst (λ (h : ℕ → List ℤ → ℤ). Each (λ y o. InRange (slice_index_or (scope_of p).tensors y int32) (h y o)) f) (sym same)
     (formula_in_range p c.parts-parts.ensures.valid.sound c.args.rows c.args.params.now [] v here at c.args.values.now c.requires.ports f d)
 
-pub type_of-requires : goal.type_of-requires
-type_of-requires c =
+pub tensor_type-requires : goal.tensor_type-requires
+tensor_type-requires c =
     let p = plain c.args.program.now in
     let v = c.args.tensor in
     let here = c.index-as_slice-tensor.result in
@@ -57,11 +57,11 @@ returns-then-is_kept c = λ s k.
     let kept = subst (λ (r : Parts). (z : StagedTensor) → slice_get (staged_tensors (plain r)) v ≡ Some z → c.is_kept.result ≡ keeps_away (extents_at (plain r) c.args.rows) z.low z.high (point (extents_at (plain r) c.args.rows) c.args.place)) c.parts-parts.ensures.value c.is_kept.ensures in
     let wraps : FitsSigned w128 c.wrap.result = search rules in
     let fits : FitsSigned w128 c.formula_value-value.result = search rules in
-    let type : c.type_of.result ≡ type_of p here.tensor = c.type_of.ensures ∙ ap (λ (r : Parts). type_of (plain r) here.tensor) c.parts-parts.ensures.value in
+    let type : c.tensor_type.result ≡ type_of p here.tensor = c.tensor_type.ensures ∙ ap (λ (r : Parts). type_of (plain r) here.tensor) c.parts-parts.ensures.value in
     let value = by_formula (formula_in p here.tensor) (pos 0) (valued (scope_of p) (port_value c.ports_of-ports.result) c.args.params.now) in
     to_z-of_z w128 c.wrap.result wraps
     ∙ c.wrap.ensures.value
-    ∙ ap (wrapped c.type_of.result) (to_z-of_z w128 c.formula_value-value.result fits ∙ c.formula_value-value.ensures)
+    ∙ ap (wrapped c.tensor_type.result) (to_z-of_z w128 c.formula_value-value.result fits ∙ c.formula_value-value.ensures)
     ∙ ap (λ (t : IntType). wrapped t value) type
     ∙ inner_is p c.args.params.now v here c.args.values.now (port_value c.ports_of-ports.result) same
     ∙ sent_inside p c.args.rows c.args.params.now v here c.args.values.now c.args.place (sym (kept here at) ∙ c.if-is_kept.true)

@@ -1,8 +1,8 @@
 use Rattle.std.proofs.Common.{◌≡◌, suc, ◌+◌, ◌++◌, map, length, sym, ◌∙◌, ap, subst, arith, add-one}
 use Rattle.soda_ir.specs.declared.program.Parts.{Parts}
 use Rattle.soda_ir.specs.Program.{plain}
+use Rattle.time_stages.specs.Margins.{AreMade}
 use Rattle.time_stages.specs.Staged.{inputs_of, staged_statements, staged_tensor}
-use Rattle.time_stages.specs.pieces.Iterations.{AreMade}
 use Rattle.time_stages.proofs.StagedCounts.{tensors_counted}
 use Rattle.time_stages.proofs.StagedLists.{first_iteration, next_iteration, tensors_are}
 use Rattle.time_stages.proofs.staging.staged_tensors.Goals as goal

@@ -1,7 +1,7 @@
 use Rattle.std.proofs.Common.{◌≡◌, ◌++◌, map, suc}
 use Rattle.soda_ir.specs.Program.{plain}
+use Rattle.time_stages.specs.Margins.{AreMade}
 use Rattle.time_stages.specs.Staged.{inputs_of, staged_statements, staged_tensor}
-use Rattle.time_stages.specs.pieces.Iterations.{AreMade}
 use Rattle.time_stages.proofs.staging.staged_tensors.Given as goal
 
 abbrev pub invariant-loop-earlier : goal.invariant-loop-earlier

@@ -1,9 +1,10 @@
-use Rattle.std.proofs.Common.{◌≡◌, ◌*◌, ◌<◌, [], ◌∷◌, length, drop, slice_index_or, ap, ◌∙◌, arith, length-append}
+use Rattle.std.proofs.Common.{◌≡◌, ◌*◌, ◌<◌, [], ◌∷◌, length, pos, drop, slice_index_or, ap, ◌∙◌, arith, length-append}
 use Rattle.soda_ir.specs.Points.{size}
 use Rattle.soda_ir.specs.Program.{plain}
+use Rattle.soda_ir.proofs.CallerLemmas.{known_list}
 use Rattle.soda_eval.specs.Runs.{cells_at}
 use Rattle.soda_run.specs.pieces.Filled.{made}
-use Rattle.soda_run.proofs.Lines.{line_is_kept, lines_size, list_known}
+use Rattle.soda_run.proofs.Lines.{line_is_kept, lines_size}
 use Rattle.soda_run.proofs.fill.Target.fill.Goals as goal
 
 pub fill_line-requires-clause-kept : goal.fill_line-requires-clause-kept
@@ -25,4 +26,4 @@ returns c =
     let lines : c.loop-line.line ≡ size (drop 1 ext) = omega (arith, c.size-line-end.ensures, ap size c.rest_of.ensures, c.requires.lines) in
     let swap : size (drop 1 ext) * slice_index_or ext 0 0 ≡ cells_at p s.rows = omega (arith, lines_size ext some, ap size c.requires.extents) in
     let end : c.loop-line.line * c.first_of-extent.result ≡ cells_at p s.rows = ap (λ k. k * c.first_of-extent.result) lines ∙ ap (λ k. size (drop 1 ext) * k) c.first_of-extent.ensures ∙ swap in
-    list_known (made p s.rows s.arrays.now s.params.now s.tensor s.margins.now s.outside.now) (cells_at p s.rows) c.loop-line.cells c.loop-line.invariant.whole (λ i l. c.loop-line.invariant.done i (omega (arith, end, l)))
+    known_list (made p s.rows s.arrays.now s.params.now s.tensor s.margins.now s.outside.now) (cells_at p s.rows) c.loop-line.cells (pos 0) c.loop-line.invariant.whole (λ i l. c.loop-line.invariant.done i (omega (arith, end, l)))

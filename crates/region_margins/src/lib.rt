@@ -1,3 +1,6 @@
+//! The region of a tensor is where its margins are kept: a law of the arrays that a program defines.
+#![tactic(auto)]
+
 ghost use Rattle.std.specs.Prelude.{◌≡◌, ℕ, ◌<◌, List, ℤ, length};
 ghost use Rattle.soda_ir.specs.Program.{PlainProgram, extents_at};
 ghost use Rattle.soda_ir.specs.Valid.{IsSound};

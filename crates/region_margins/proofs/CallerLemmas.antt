@@ -1,14 +1,11 @@
--- What crates above cite: the number of what is read, that the cells which a formula reads are good ones, and that regions
--- keep margins.
-pub use Rattle.soda_run.proofs.Distances.{each_from, every_both, good_length, good_there, read_number, reads_good}
-pub use Rattle.soda_run.proofs.Cells.{input_bare}
+-- What crates above cite: that regions keep margins.
 use Rattle.std.proofs.Common.{◌≡◌, ℕ, ◌<◌, List, ℤ, length}
 use Rattle.soda_ir.specs.Program.{PlainProgram, extents_at}
 use Rattle.soda_ir.specs.Valid.{IsSound}
 use Rattle.soda_eval.specs.Arrays.{in_region}
 use Rattle.soda_eval.specs.Runs.{run_of, stencil_of}
 use Rattle.time_stages.specs.Margins.{keeps_away, margins_of}
-use Rattle.soda_run.proofs.Regions.{tensor_kept}
+use Rattle.region_margins.proofs.Regions.{tensor_kept}
 
 pub region_margins : (p : PlainProgram) → IsSound p → (rows : ℕ) (params : List ℤ) (inputs : List (List ℤ)) (t x : ℕ) (q : List ℤ) → x < length p.tensors
     → in_region (stencil_of p rows) (run_of p rows params inputs t) (length p.tensors) x q ≡ keeps_away (extents_at p rows) (margins_of p t x).low (margins_of p t x).high q

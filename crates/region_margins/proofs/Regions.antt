@@ -7,15 +7,15 @@ use Rattle.soda_ir.specs.Formula.{Formula, number, read, param, unary, binary, c
 use Rattle.soda_ir.specs.Program.{PlainProgram, PlainTensor, extents_at, outputs_of, preserves}
 use Rattle.soda_ir.specs.Uses.{is_good_cell}
 use Rattle.soda_ir.specs.Valid.{IsSound, output_types}
+use Rattle.soda_ir.proofs.CallerLemmas.{IsOutput, as_many_outputs, countable, every_both, good_length, output_at, reads_good}
 use Rattle.soda_eval.specs.Arrays.{Given, in_region}
 use Rattle.soda_eval.specs.Points.{in_box, moved}
 use Rattle.soda_eval.specs.Runs.{run_of, stencil_of}
-use Rattle.soda_eval.proofs.CallerLemmas.{IsOutput, as_many_outputs, output_at, ranks_below}
+use Rattle.soda_eval.proofs.CallerLemmas.{ranks_below}
 use Rattle.time_stages.specs.declared.margins.Margins.{Margins}
 use Rattle.time_stages.specs.Margins.{dims_of, formula_margins, input_margins, margins_of, margins_over, needed, no_margins, widest}
 use Rattle.time_stages.proofs.CallerLemmas.{formula_passes}
-use Rattle.soda_run.proofs.Away.{KeepsMargins, needed_kept, none_kept, same_kept, widest_kept}
-use Rattle.soda_run.proofs.Distances.{every_both, good_length, reads_good}
+use Rattle.region_margins.proofs.Away.{KeepsMargins, needed_kept, none_kept, same_kept, widest_kept}
 
 -- a test beside two, or beside three
 beside_two : (a b c : Bool) → ((a && b) && (a && c)) ≡ (a && (b && c))
@@ -96,7 +96,7 @@ module _ (p : PlainProgram) (sound : IsSound p) (rows : ℕ) where
     tensor_by k x q rest e (Some f) d =
         formula_kept ns (dims_of p) many q (λ y w. region k y (moved q w)) (λ y w. needed (margins_over p inputs k y) w) (λ y w. is_good_cell p y w && has_place p k y)
         (λ y w h. let both = and_parts (is_good_cell p y w) (has_place p k y) h in needed_kept ns q w (margins_over p inputs k y) (region k y (moved q w)) (good_length p y w both.0 ∙ sym many) (rest y (moved q w) both.1))
-        f (every_both (is_good_cell p) (λ y w. has_place p k y) f (reads_good p sound x f d) (formula_passes (every (λ y w. has_place p k y)) p.tensors x f e d))
+        f (every_both (is_good_cell p) (λ y w. has_place p k y) f (reads_good p x f (countable p sound) d) (formula_passes (every (λ y w. has_place p k y)) p.tensors x f e d))
 
     region_kept : (k x : ℕ) (q : List ℤ) → has_place p k x ≡ true → KeepsMargins ns q (margins_over p inputs k x) (region k x q)
     unfolding in_region margins_over

@@ -3,15 +3,12 @@ use Rattle.std.proofs.Common.{◌≡◌, ℕ, zero, suc, ◌+◌, ◌<◌, Bool,
 use Rattle.std.specs.List.{list_all}
 use Rattle.std.proofs.lemmas.Bool.{and_parts, false≢true}
 use Rattle.soda_words.specs.IntType.{IntType, int32}
-use Rattle.soda_ir.specs.declared.program.Border.{Border}
-use Rattle.soda_ir.specs.declared.program.Border.TheVariants.{Ignore, Preserve}
 use Rattle.soda_ir.specs.declared.program.Role.{Role}
 use Rattle.soda_ir.specs.declared.program.Role.TheVariants.{Input, Local, Output}
 use Rattle.soda_ir.specs.Counts.{is_input_role}
 use Rattle.soda_ir.specs.Formula.{Formula}
 use Rattle.soda_ir.specs.Program.{PlainTensor, input_types, outputs_from}
 use Rattle.soda_ir.specs.Valid.{has_formula_if_no_input, has_inputs_first, output_types}
-use Rattle.soda_eval.specs.Runs.{borders_from}
 
 -- the tensor of a number is an input
 abbrev pub input_at : List PlainTensor → ℕ → Bool
@@ -92,6 +89,18 @@ bare_input (t ∷ ts) zero e l h =
 bare_input (t ∷ ts) (suc x) e l h =
     bare_input ts x (and_parts (has_formula_if_no_input t) (list_all has_formula_if_no_input ts) e).1 (omega arith) h
 
+-- an input has no formula
+bare_by : (o : Option Formula) (r : Bool) → elim o [ None ↦ r | Some f ↦ not r ] ≡ true → r ≡ true → o ≡ None
+bare_by None r e h = refl
+bare_by (Some f) r e h = absurd (false≢true (sym (ap not h) ∙ e))
+
+pub input_bare : (ts : List PlainTensor) (x : ℕ) → list_all has_formula_if_no_input ts ≡ true → input_at ts x ≡ true → slice_index_or (map (λ t. t.formula) ts) x None ≡ None
+input_bare [] x e h = absurd (false≢true h)
+input_bare (t ∷ ts) zero e h =
+    bare_by t.formula (is_input_role t.role) (and_parts (has_formula_if_no_input t) (list_all has_formula_if_no_input ts) e).0 h
+input_bare (t ∷ ts) (suc x) e h =
+    input_bare ts x (and_parts (has_formula_if_no_input t) (list_all has_formula_if_no_input ts) e).1 h
+
 -- x is the number of output j, where the first tensor has the number k
 pub record IsOutput (k : ℕ) (ts : List PlainTensor) (j x : ℕ) : Type 0 where
   pub place : ℕ
@@ -99,10 +108,12 @@ pub record IsOutput (k : ℕ) (ts : List PlainTensor) (j x : ℕ) : Type 0 where
   pub there : place < length ts
   pub type : type_in ts place ≡ slice_index_or (output_types ts) j int32
 
-abbrev with_output : Role → IntType → List IntType → List IntType
+-- a list with an output's type before it, or without
+abbrev pub with_output : Role → IntType → List IntType → List IntType
 with_output r t ts = elim r [ Input ↦ ts | Local ↦ ts | Output ↦ t ∷ ts ]
 
-abbrev with_number : Role → ℕ → List ℕ → List ℕ
+-- a list with an output's number before it, or without
+abbrev pub with_number : Role → ℕ → List ℕ → List ℕ
 with_number r k xs = elim r [ Input ↦ xs | Local ↦ xs | Output ↦ k ∷ xs ]
 
 -- one tensor further
@@ -141,43 +152,3 @@ pub as_many_outputs : (k : ℕ) (ts : List PlainTensor) → length (outputs_from
 as_many_outputs k [] = refl
 as_many_outputs k (t ∷ ts) =
     as_many_by t.role k t.ty (outputs_from (suc k) ts) (output_types ts) (as_many_outputs (suc k) ts)
-
--- j is the number of an output of type t, where the first output has the number m
-pub record IsBorder (m : ℕ) (types : List IntType) (j : ℕ) (t : IntType) : Type 0 where
-  pub number : ℕ
-  pub is : j ≡ m + number
-  pub there : number < length types
-  pub type : slice_index_or types number int32 ≡ t
-
-abbrev with_border : Role → ℕ → List PlainTensor → List (Option ℕ)
-with_border r m ts =
-    elim r [ Input ↦ None ∷ borders_from m ts | Local ↦ None ∷ borders_from m ts | Output ↦ Some m ∷ borders_from (suc m) ts ]
-
-some_same : (a b : ℕ) → Some a ≡ Some b → b ≡ a
-some_same a b e = cc
-
-border_first : (r : Role) (m j : ℕ) (t : IntType) (ts : List PlainTensor) → slice_index_or (with_border r m ts) 0 None ≡ Some j → IsBorder m (with_output r t (output_types ts)) j t
-border_first Input m j t ts e = cc
-border_first Local m j t ts e = cc
-border_first Output m j t ts e =
-    record { number = 0; is = some_same m j e ∙ omega arith; there = omega arith; type = refl }
-
-border_next : (r : Role) (m j x : ℕ) (t u : IntType) (ts : List PlainTensor) → slice_index_or (with_border r m ts) (suc x) None ≡ Some j
-    → ((i : ℕ) → slice_index_or (borders_from i ts) x None ≡ Some j → IsBorder i (output_types ts) j u) → IsBorder m (with_output r t (output_types ts)) j u
-border_next Input m j x t u ts e rest = rest m e
-border_next Local m j x t u ts e rest = rest m e
-border_next Output m j x t u ts e rest =
-    let b = rest (suc m) e in
-    record { number = suc b.number; is = omega (arith, b.is); there = omega (arith, b.there); type = b.type }
-
-pub border_at : (m : ℕ) (ts : List PlainTensor) (x j : ℕ) → slice_index_or (borders_from m ts) x None ≡ Some j → IsBorder m (output_types ts) j (type_in ts x)
-border_at m [] x j e = cc
-border_at m (t ∷ ts) zero j e = border_first t.role m j t.ty ts e
-border_at m (t ∷ ts) (suc x) j e =
-    border_next t.role m j x t.ty (type_in ts x) ts e (λ i f. border_at i ts x j f)
-
--- there are borders under preserve alone
-pub border_preserves : (b : Border) (ts : List PlainTensor) (x j : ℕ) → slice_index_or (elim b [ Ignore ↦ [] | Preserve ↦ borders_from 0 ts ]) x None ≡ Some j
-    → (elim b [ Ignore ↦ false | Preserve ↦ true ] ≡ true) × (slice_index_or (borders_from 0 ts) x None ≡ Some j)
-border_preserves Ignore ts x j e = cc
-border_preserves Preserve ts x j e = (refl, e)
