@@ -6,7 +6,8 @@ use Rattle.soda_words.specs.IntType.{IntType}
 use Rattle.soda_words.specs.Names.{is_some_digits}
 use Rattle.soda_words.specs.Tokens.{value_behind}
 use Rattle.int_types.specs.Ranges.{least, past}
-use Rattle.array_bytes.specs.Sizes.{cell_size, most_run}
+use Rattle.array_bytes.specs.Limits.{most_run}
+use Rattle.array_bytes.specs.Sizes.{cell_size}
 
 -- a minus sign stands first
 abbrev pub begins_minus : List ℕ → Bool

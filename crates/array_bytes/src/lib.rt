@@ -5,6 +5,7 @@
 mod fault;
 mod form;
 mod judging;
+mod limits;
 mod raw;
 mod run;
 mod space;

@@ -2,11 +2,10 @@
 ghost use Rattle.std.specs.Prelude.{◌≡◌, ℕ, ◌+◌, ◌≤◌, ◌^◌, ◌++◌, ◌∷◌, [], List, min, ◌&&◌, ◌==◌, if◌then◌else◌};
 ghost use Rattle.soda_words.specs.Names.{is_digit};
 
+use crate::limits::MOST_RUN;
+
 // The greatest magnitude that is told from greater ones: no type has its number or one beyond it.
 const FAR: u128 = 0x1_0000_0000_0000_0000;
-
-// The longest cell, in bytes.
-const LONGEST: u8 = 64;
 
 // Whether the byte is a minus sign at the front of a run, which has so many bytes before it.
 #[inline]
@@ -29,7 +28,7 @@ fn count_up(counted: u8) -> u8
     requires { counted ≤ 65 }
     ensures { result ≡ min (counted + 1) 65 }
 {
-    if counted <= LONGEST {
+    if counted <= MOST_RUN {
         counted + 1
     } else {
         counted
@@ -96,7 +95,7 @@ impl Run {
         if !self.digits {
             return None;
         }
-        if self.counted > LONGEST {
+        if self.counted > MOST_RUN {
             return None;
         }
         if self.counted <= signs(self.minus) {

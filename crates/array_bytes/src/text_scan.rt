@@ -2,6 +2,7 @@ ghost use Rattle.std.specs.Prelude.{◌≡◌, ℕ, ◌+◌, ◌*◌, ◌≤◌,
 
 use crate::CellFault;
 use crate::judging::judge;
+use crate::limits::{MOST_RUN, SPARE_BYTES};
 use crate::run::Run;
 use crate::space::is_space;
 use int_types::Ty;
@@ -51,7 +52,7 @@ impl TextScan {
         TextScan {
             ty,
             cells,
-            left: 64 * cells + 65536,
+            left: MOST_RUN as u64 * cells + SPARE_BYTES,
             number: 0,
             run: Run::new(),
         }

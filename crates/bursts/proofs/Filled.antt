@@ -41,6 +41,7 @@ same_left given a b id lt ids bytes place =
     let same : content b id ≡ content a id = ap (λ (q : List ℕ). unwrap_or (b.bytes q) []) (ids.name id lt) ∙ ap (λ (o : Option (List ℕ)). unwrap_or o []) (bytes (a.name id)) in
     sym (ap (λ p. drop p (content b id)) place ∙ ap (λ (xs : List ℕ). drop (a.place id) xs) same)
 
+-- what an id's file holds stays where ids and bytes do
 pub same_content : (given : ℕ) (a b : Store) (id : ℕ) → id < given → KeepsIds given a b → KeepsBytes a b → content b id ≡ content a id
 same_content given a b id lt ids bytes = ap (λ (q : List ℕ). unwrap_or (b.bytes q) []) (ids.name id lt) ∙ ap (λ (o : Option (List ℕ)). unwrap_or o []) (bytes (a.name id))
 

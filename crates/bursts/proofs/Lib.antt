@@ -3,6 +3,6 @@ pub mod Filled
 pub mod TextSteps
 pub mod RawSteps
 pub mod Blocked
-pub mod FailedLast
+pub mod CallerLemmas
 pub mod WritesBehind
 pub mod WriterSteps

@@ -6,50 +6,13 @@ use Rattle.std.proofs.lemmas.List.Elements.{All-append, All-cons, All-nil, All-h
 use Rattle.soda_io.specs.Store.{Store, KeepsIds}
 use Rattle.soda_io.specs.declared.call.FileCall.{FileCall}
 use Rattle.soda_io.specs.declared.call.FileCall.TheVariants.{Open, Create, Read, Write}
-use Rattle.whole_files.specs.Journal.{IsFailed, IsReadBy, NoneAfterEnd, NoneAfterFailed, EndsFailed, ReadsOf, gots}
-use Rattle.whole_files.proofs.CallerLemmas.{gots-append}
+use Rattle.whole_files.specs.Journal.{IsReadBy, NoneAfterEnd, NoneAfterFailed, EndsFailed, ReadsOf, gots}
+use Rattle.whole_files.proofs.CallerLemmas.{NotEnd, NotFailed, ends_behind, ends_with, gots-append, none_after_end-append, none_after_failed-append, none_failed}
 use Rattle.array_bytes.specs.declared.fault.CellFault.{CellFault}
 use Rattle.array_bytes.specs.declared.fault.CellFault.TheVariants.{BadCell, CellRange, TooFew, TooMany, TooLong, Failed, Memory}
 use Rattle.bursts.specs.Blocks.{EachRead, EndsLast, ReadsOn, amount, place_behind}
 use Rattle.bursts.specs.Machine.Feeds.{Fills, FillsFile, fill_entry}
 use Rattle.bursts.specs.declared.feed.Feed.{Feed}
-
-abbrev NotFailed : FileCall → Type 0
-NotFailed e = IsFailed e → ⊥
-
-abbrev NotEnd : Option ℕ → Type 0
-NotEnd g = g ≡ Some 0 → ⊥
-
--- entries that don't end in a failed one have none
-none_failed : (es : List FileCall) → NoneAfterFailed es → (EndsFailed es → ⊥) → All NotFailed es
-none_failed [] none ends = All-nil NotFailed
-none_failed (e ∷ []) none ends = All-cons NotFailed e [] ends (All-nil NotFailed)
-none_failed (e ∷ f ∷ es) none ends =
-    All-cons NotFailed e (f ∷ es) (λ is. absurd (some (none.0 is))) (none_failed (f ∷ es) none.1 ends)
-  where
-    some : (f ∷ es) ≡ [] → ⊥
-    some q = cc
-
-after_failed : (xs ys : List FileCall) → All NotFailed xs → NoneAfterFailed ys → NoneAfterFailed (xs ++ ys)
-after_failed [] ys all last = last
-after_failed (x ∷ xs) ys all last = (λ is. absurd (All-head NotFailed x xs all is), after_failed xs ys (All-tail NotFailed x xs all) last)
-
-after_end : (xs ys : List (Option ℕ)) → All NotEnd xs → NoneAfterEnd ys → NoneAfterEnd (xs ++ ys)
-after_end [] ys all end = end
-after_end (x ∷ xs) ys all end = (λ is. absurd (All-head NotEnd x xs all is), after_end xs ys (All-tail NotEnd x xs all) end)
-
--- entries end failed where those behind others do that didn't fail
-ends_from : (xs ys : List FileCall) → All NotFailed xs → EndsFailed (xs ++ ys) → EndsFailed ys
-ends_from [] ys all ends = ends
-ends_from (x ∷ []) [] all ends = absurd (All-head NotFailed x [] all ends)
-ends_from (x ∷ []) (y ∷ ys) all ends = ends
-ends_from (x ∷ z ∷ zs) ys all ends = ends_from (z ∷ zs) ys (All-tail NotFailed x (z ∷ zs) all) ends
-
-ends_to : (xs ys : List FileCall) → EndsFailed ys → EndsFailed (xs ++ ys)
-ends_to [] ys ends = ends
-ends_to (x ∷ []) [] ends = absurd ends
-ends_to (x ∷ []) (y ∷ ys) ends = ends
-ends_to (x ∷ z ∷ zs) ys ends = ends_to (z ∷ zs) ys ends
 
 behind_both : (place : ℕ) (xs ys : List FileCall) → place_behind place (xs ++ ys) ≡ place_behind (place_behind place xs) ys
 behind_both place [] ys = refl
@@ -96,7 +59,7 @@ module _ (P : ℕ → ℕ → Type 0) where
         calls = y.calls ∙ ap (λ (es : List FileCall). es ++ y.entries) x.calls ∙ append_assoc a.calls x.entries y.entries;
         reads = record {
           own = All-append (IsReadBy id) x.entries y.entries x.reads.own y.reads.own;
-          failed = after_failed x.entries y.entries good y.reads.failed;
+          failed = none_after_failed-append x.entries y.entries good y.reads.failed;
           end =
               let Q : List (Option ℕ) → Type 0 = λ gs. NoneAfterEnd gs in
               subst Q (sym (gots-append id x.entries y.entries)) (ending f refl);
@@ -106,7 +69,7 @@ module _ (P : ℕ → ℕ → Type 0) where
             let Q : List (Option ℕ) → Type 0 = λ gs. All NotEnd gs in
             subst Q (sym (gots-append id x.entries y.entries)) (All-append NotEnd (gots id x.entries) (gots id y.entries) (x.going (before f refl q)) (y.going q));
         met = λ p q. last f refl p q;
-        failed = (λ g. ends_to x.entries y.entries (y.failed.0 g), λ ends. y.failed.1 (ends_from x.entries y.entries good ends));
+        failed = (λ g. ends_with x.entries y.entries (y.failed.0 g), λ ends. y.failed.1 (ends_behind x.entries y.entries good ends));
         stays = λ q. y.stays (x.stays q);
         each = each_both (a.place id) x.entries y.entries x.each (let Q : ℕ → Type 0 = λ p. EachRead P p y.entries in subst Q x.place y.each);
         place = y.place ∙ ap (λ p. place_behind p y.entries) x.place ∙ sym (behind_both (a.place id) x.entries y.entries);
@@ -125,7 +88,7 @@ module _ (P : ℕ → ℕ → Type 0) where
           (gots id x.entries ++ m.0, gots-append id x.entries y.entries ∙ ap (λ (gs : List (Option ℕ)). gots id x.entries ++ gs) m.1 ∙ sym (append_assoc (gots id x.entries) m.0 (Some 0 ∷ [])))
 
       ending : (t : Bool) → f ≡ t → NoneAfterEnd (gots id x.entries ++ gots id y.entries)
-      ending false q = after_end (gots id x.entries) (gots id y.entries) (x.going q) y.reads.end
+      ending false q = none_after_end-append (gots id x.entries) (gots id y.entries) (x.going q) y.reads.end
       ending true q =
           let Q : List (Option ℕ) → Type 0 = λ gs. NoneAfterEnd gs in
           subst Q (sym (ap (λ (es : List FileCall). gots id x.entries ++ gots id es) (y.quiet q) ∙ append-nil (gots id x.entries))) x.reads.end

@@ -24,6 +24,10 @@ use Rattle.bursts.specs.declared.text_reader.TextReader.{TextReader}
 use Rattle.bursts.proofs.Filled.{feeds_filled, same_content}
 use Rattle.bursts.proofs.OneByOne.{fill_reads, no_read, reads_then}
 
+-- where a block isn't full, cells are still to come
+pub fewer : (cells out : List ℤ) (i : ℕ) → i < length out → length (cells ++ take i out) < length cells + length out
+fewer cells out i lt = omega (arith, length-append cells (take i out), length-take-le i out (omega arith))
+
 -- what isn't used after some more is used
 skipped : (xs : List ℕ) (start filled n : ℕ) → start + n ≤ filled → take (filled - (start + n)) (drop (start + n) xs) ≡ drop n (take (filled - start) (drop start xs))
 skipped xs start filled n le =

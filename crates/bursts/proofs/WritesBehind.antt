@@ -9,7 +9,7 @@ use Rattle.soda_io.specs.declared.call.FileCall.{FileCall}
 use Rattle.whole_files.specs.Journal.{IsWriteBy}
 use Rattle.whole_files.specs.Writing.{WritesWhole, last_write}
 use Rattle.bursts.specs.Blocks.{WritesOn}
-use Rattle.bursts.proofs.FailedLast.{NotFailed, none_failed, after_failed, ends_from, ends_to}
+use Rattle.whole_files.proofs.CallerLemmas.{NotFailed, ends_behind, ends_with, none_after_failed-append, none_failed}
 
 -- an Ok is no error
 pub ok_never : (u : Unit {0}) (e : IoErr) → IsErrOf (Ok u) e → ⊥
@@ -53,9 +53,9 @@ writes_then given a b c id u r lt x y =
       calls = y.calls ∙ ap (λ (es : List FileCall). es ++ y.entries) x.calls ∙ append_assoc a.calls x.entries y.entries;
       writes = record {
         own = All-append (IsWriteBy id) x.entries y.entries x.writes.own y.writes.own;
-        failed = after_failed x.entries y.entries good y.writes.failed;
+        failed = none_after_failed-append x.entries y.entries good y.writes.failed;
       };
-      failed = (λ is. ends_to x.entries y.entries (y.failed.0 is), λ ends. y.failed.1 (ends_from x.entries y.entries good ends));
+      failed = (λ is. ends_with x.entries y.entries (y.failed.0 is), λ ends. y.failed.1 (ends_behind x.entries y.entries good ends));
     }
 
 -- the same at numbers that are equal

@@ -63,7 +63,8 @@ abbrev pub FailsNow : Option CellFault → Result (Unit {0}) CellFault → Type 
 FailsNow before result = (before ≡ None) × IsErrOf result Failed
 
 -- the count of faults doesn't fall, rises only where a read fails or asks for memory, and rose where one failed
-pub record ReadCause {T : Type 0} (fault : Option CellFault) (before now : ℕ) (result : Result T CellFault) : Type 0 where
+pub record ReadCause {T : Type 0} (fault : Option CellFault) (before now : ℕ) (result : Result T CellFault)
+    : Type 0 where
   pub later : before ≤ now
   pub kept : result ≢ Err Failed → result ≢ Err Memory → now ≡ before
   pub kept_again : fault ≢ None → now ≡ before

@@ -47,7 +47,8 @@ pub record Lags (o : Output) (cells : List ℤ) (bytes : List ℕ) : Type 0 wher
 
 -- the line of a text, behind these cells
 abbrev pub LineIs : Form → CellWriter → List ℤ → Type 0
-LineIs Text w cells = (w.begun ≡ nat_lt 0 (length cells)) × (w.column ≡ length cells % w.run) × (vec_len w.buffer < text_block)
+LineIs Text w cells =
+    (w.begun ≡ nat_lt 0 (length cells)) × (w.column ≡ length cells % w.run) × (vec_len w.buffer < text_block)
 LineIs Raw w cells = w.begun ≡ false
 
 -- a writer has put these cells into a file with these bytes

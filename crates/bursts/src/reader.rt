@@ -16,8 +16,8 @@ use std::alloc::Global;
 
 /// Reads the cells of an array's file in order.
 ///
-/// A text is read 4,096 bytes at a time, as far as a cell that is asked for needs it. Raw cells are read a burst word at
-/// a time, none before a cell of it is asked for and none of them past the last cell. Nobody else reads by the id or
+/// A text is read 4,096 bytes at a time, as far as a cell that is asked for needs it. Raw cells are read a burst word
+/// at a time, none before a cell of it is asked for and none of them past the last cell. Nobody else reads by the id or
 /// changes the bytes of its name, and after an error a reader answers it again to each later call.
 #[derive(Drop)]
 pub struct CellReader {

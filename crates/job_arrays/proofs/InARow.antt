@@ -17,11 +17,6 @@ use Rattle.job_arrays.specs.Machine.OneFile.{CellsAre, ReadsFile}
 keeps_ids : (given : ℕ) (old mid new : Store) → KeepsIds given old mid → KeepsIds given mid new → KeepsIds given old new
 keeps_ids given old mid new a b = record { name = λ k lt. b.name k lt ∙ a.name k lt; opened = λ k lt. b.opened k lt ∙ a.opened k lt }
 
--- what an id's name holds stays
-pub content_kept : (given : ℕ) (old new : Store) (id : ℕ) → id < given → KeepsIds given old new → KeepsBytes old new → content new id ≡ content old id
-content_kept given old new id lt ids bytes =
-    ap (λ (n : List ℕ). unwrap_or (new.bytes n) []) (ids.name id lt) ∙ ap (λ (o : Option (List ℕ)). unwrap_or o []) (bytes (old.name id))
-
 -- a reader that was just made stands at the first byte of its file
 pub stands_first : (r : CellReader) (s : Store) (id : ℕ) → (kind r).id ≡ id → s.place id ≡ 0 → ((bytes : List ℕ) → StandsAt r bytes 0)
     → StandsAt r (content s (kind r).id) (s.place (kind r).id)

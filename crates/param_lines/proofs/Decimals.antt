@@ -17,8 +17,8 @@ use Rattle.soda_ir.specs.Points.{size}
 use Rattle.soda_ir.specs.Program.{PlainParam}
 use Rattle.soda_eval.specs.Runs.{IsArray}
 use Rattle.array_bytes.specs.Values.{begins_minus, behind_sign, is_of, with_sign}
+use Rattle.array_bytes.proofs.CallerLemmas.{of_in_range}
 use Rattle.param_lines.specs.Values.{are_values, decimal_value, is_decimal, is_value_of}
-use Rattle.param_lines.proofs.Ranged.{range_of}
 use Rattle.param_lines.proofs.Spaced.{IsWord, all_dark}
 
 small_by : (s : Bool) (n : ℕ) (v : ℤ) → n ≤ 64 → InRange (record { signed = s; bits = n }) v → unsigned_abs v < 2 ^ 64
@@ -59,7 +59,7 @@ back (negsuc n) h = ap (with_sign true) (digits_value-decimal own (suc n) h)
 
 value_of : (t : IntType) (v : ℤ) → IsType t → InRange t v → is_value_of t (signed_decimal v) ≡ true
 value_of t v h r =
-    and_from (is_decimal (signed_decimal v)) (is_of t (decimal_value (signed_decimal v))) (is_one v (small t v h r)) (ap (is_of t) (back v (small t v h r)) ∙ range_of t v r)
+    and_from (is_decimal (signed_decimal v)) (is_of t (decimal_value (signed_decimal v))) (is_one v (small t v h r)) (ap (is_of t) (back v (small t v h r)) ∙ of_in_range t v r)
 
 all_values : (t : IntType) (vs : List ℤ) → IsType t → All (λ v. InRange t v) vs → list_all (is_value_of t) (map signed_decimal vs) ≡ true
 all_values t [] h k = refl

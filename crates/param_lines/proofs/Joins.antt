@@ -2,7 +2,7 @@
 use Rattle.std.proofs.Common.{◌≡◌, ℕ, ◌+◌, ◌<◌, ◌≤◌, List, [], ◌∷◌, ◌++◌, length, drop, get_or, Option, Some, None, ℤ, refl, sym, ◌∙◌, ap, append_assoc}
 use Rattle.std.proofs.lemmas.List.{append-nil, drop_all, drop_more}
 use Rattle.param_lines.specs.Params.{joined}
-use Rattle.param_lines.proofs.Numbers.{with_front}
+use Rattle.param_lines.proofs.Numbers.{none_front, with_front}
 
 -- the values of the first slots are joined
 pub record AreJoined (index : ℕ) (values : List ℤ) (slots : List (Option (List ℤ))) : Type 0 where
@@ -12,12 +12,8 @@ front_twice : (values more : List ℤ) (o : Option (List ℤ)) → with_front (v
 front_twice values more None = refl
 front_twice values more (Some vs) = ap (λ (xs : List ℤ). Some xs) (append_assoc values more vs)
 
-none_joined : (o : Option (List ℤ)) → with_front [] o ≡ o
-none_joined None = refl
-none_joined (Some vs) = refl
-
 pub begin_joining : (slots : List (Option (List ℤ))) → AreJoined 0 [] slots
-begin_joining slots = record { same = none_joined (joined slots) }
+begin_joining slots = record { same = none_front (joined slots) }
 
 -- one slot more
 pub join_more : (i : ℕ) (values more all : List ℤ) (slots : List (Option (List ℤ))) → AreJoined i values slots → i < length slots → get_or slots i None ≡ Some more → all ≡ values ++ more → AreJoined (i + 1) all slots

@@ -63,7 +63,7 @@ others_of p ps name h same =
     ap (λ n. list_any (λ q. is_word n q.name) ps) same
     ∙ not-true (list_any (λ q. is_word p.name q.name) ps) (and_parts (not (list_any (λ q. is_word p.name q.name) ps)) (are_apart ps) h).0
 
-fewer_apart : (p : PlainParam) (ps : List PlainParam) → are_apart (p ∷ ps) ≡ true → are_apart ps ≡ true
+pub fewer_apart : (p : PlainParam) (ps : List PlainParam) → are_apart (p ∷ ps) ≡ true → are_apart ps ≡ true
 fewer_apart p ps h = (and_parts (not (list_any (λ q. is_word p.name q.name) ps)) (are_apart ps) h).1
 
 taken_from : (ps : List PlainParam) (done : List (List (List ℕ))) (name : List ℕ) (ws : List (List ℕ)) → are_apart ps ≡ true → are_taken ps (map (values_at done) ps) (name ∷ ws) ≡ (is_of_param ps name ws && not (list_any (is_named name) done))

@@ -12,15 +12,15 @@ pub record IsNear (index number : ℕ) (digits : List ℕ) : Type 0 where
   pub value : min (value_behind number (drop index digits)) (2 ^ 65) ≡ min (value_behind 0 digits) (2 ^ 65)
   pub others : list_all is_digit (drop index digits) ≡ true
 
--- more digits make no smaller number
-grows : (n : ℕ) (ds : List ℕ) → n ≤ value_behind n ds
-grows n [] = omega arith
-grows n (c ∷ cs) = omega (arith, grows (n * 10 + (c - 48)) cs)
+-- more digits take no number near that is far
+stays_far : (n far : ℕ) (ds : List ℕ) → far ≤ n → far ≤ value_behind n ds
+stays_far n far [] h = h
+stays_far n far (c ∷ cs) h = stays_far (n * 10 + (c - 48)) far cs (omega arith)
 
 -- a number cut off goes on as one that isn't, as far as it is near
 pub cut : (m far : ℕ) (ds : List ℕ) → min (value_behind (min m far) ds) far ≡ min (value_behind m ds) far
 cut m far ds =
-    ⊎_elim (λ (l : m < suc far). let same : min m far ≡ m = omega arith in ap (λ k. min (value_behind k ds) far) same) (λ (l : suc far ≤ m). let low : far ≤ min m far = omega arith in omega (arith, grows (min m far) ds, grows m ds)) (cases_lt m (suc far))
+    ⊎_elim (λ (l : m < suc far). let same : min m far ≡ m = omega arith in ap (λ k. min (value_behind k ds) far) same) (λ (l : suc far ≤ m). let low : far ≤ min m far = omega arith in omega (arith, stays_far (min m far) far ds low, stays_far m far ds (omega arith))) (cases_lt m (suc far))
 
 -- one more digit
 pub near_more : (i n more : ℕ) (digits : List ℕ) → IsNear i n digits → i < length digits → more ≡ min (n * 10 + (get_or digits i 0 - 48)) (2 ^ 65) → IsNear (i + 1) more digits

@@ -20,13 +20,14 @@ with_front values more = option_map (λ vs. values ++ vs) more
 pub record AreRead (t : IntType) (values : List ℤ) (rest text : List ℕ) : Type 0 where
   pub same : with_front values (values_in t (runs rest)) ≡ values_in t (runs text)
 
-none_read : (o : Option (List ℤ)) → with_front [] o ≡ o
-none_read None = refl
-none_read (Some vs) = refl
+-- no values before others
+pub none_front : (o : Option (List ℤ)) → with_front [] o ≡ o
+none_front None = refl
+none_front (Some vs) = refl
 
 -- no number is read
 pub begun : (t : IntType) (text : List ℕ) → AreRead t [] text text
-begun t text = record { same = none_read (values_in t (runs text)) }
+begun t text = record { same = none_front (values_in t (runs text)) }
 
 moved : (values : List ℤ) (v : ℤ) (o : Option (List ℤ)) → with_front (values ++ v ∷ []) o ≡ with_front values (option_map (λ vs. v ∷ vs) o)
 moved values v None = refl

@@ -1,41 +1,15 @@
 -- Numbers of a type are near 0, so that a number cut off far from 0 is judged as the number itself.
-use Rattle.std.proofs.Common.{◌≡◌, ℕ, ◌-◌, ◌<◌, ◌≤◌, ◌^◌, Bool, true, false, Some, None, min, ℤ, unsigned_abs, refl, sym, ◌∙◌, ap, arith, if◌then◌else◌, ⊎_elim, lit<, ◌↔◌, ◌&&◌, List, subst}
-use Rattle.std.proofs.lemmas.Bool.{and_from, and_parts, cases_lt, false_from_ne_true}
-use Rattle.std.proofs.lemmas.Int.{ints}
-use Rattle.std.proofs.Math.Nat.{pow-le-pow_right}
-use Rattle.std.specs.Prelude.{int_le, int_lt}
-use Rattle.int_types.specs.Ranges.{InRange, least, past}
+use Rattle.std.proofs.Common.{◌≡◌, ℕ, ◌-◌, ◌<◌, ◌≤◌, ◌^◌, Bool, true, false, Some, None, min, ℤ, refl, sym, ◌∙◌, ap, arith, if◌then◌else◌, ⊎_elim, ◌↔◌, ◌&&◌, List, subst}
+use Rattle.std.proofs.lemmas.Bool.{cases_lt, false_from_ne_true, true≢false}
+use Rattle.int_types.specs.Ranges.{InRange}
 use Rattle.soda_words.specs.IntType.{IntType, IsType}
 use Rattle.soda_words.specs.Names.{is_some_digits}
 use Rattle.soda_words.specs.Tokens.{value_behind}
 use Rattle.soda_words.proofs.CallerLemmas.{same_tests}
+use Rattle.array_bytes.proofs.CallerLemmas.{far_is_none, in_range_of, of_in_range}
 use Rattle.array_bytes.specs.Values.{begins_minus, behind_sign, is_of, with_sign}
 use Rattle.param_lines.specs.Values.{decimal_value}
 use Rattle.param_lines.specs.pieces.Slots.{value_in}
-
-abs_by : (s : Bool) (n : ℕ) (v : ℤ) → n ≤ 64 → InRange (record { signed = s; bits = n }) v → unsigned_abs v ≤ 2 ^ 64
-abs_by true n v h r =
-    let e : 2 ^ (n - 1) ≤ 2 ^ 64 = pow-le-pow_right {n = 2} (lit< tt) {i = n - 1} {j = 64} (omega arith) in omega (arith, ints)
-abs_by false n v h r = let e : 2 ^ n ≤ 2 ^ 64 = pow-le-pow_right {n = 2} (lit< tt) {i = n} {j = 64} h in omega (arith, ints)
-
-abs_bound : (t : IntType) (v : ℤ) → IsType t → InRange t v → unsigned_abs v ≤ 2 ^ 64
-abs_bound t v h r = abs_by t.signed t.bits v h.most r
-
--- a number that the test finds is in range
-pub of_range : (t : IntType) (v : ℤ) → is_of t v ≡ true → InRange t v
-unfolding is_of
-of_range t v e =
-    let p = and_parts (int_le (least t) v) (int_lt v (past t)) e in
-    record { from = grind (arith, ints); below = grind (arith, ints) }
-
--- and the other way round
-pub range_of : (t : IntType) (v : ℤ) → InRange t v → is_of t v ≡ true
-unfolding is_of
-range_of t v r = and_from (int_le (least t) v) (int_lt v (past t)) (grind (arith, ints)) (grind (arith, ints))
-
-abs_of : (s : Bool) (m : ℕ) → unsigned_abs (with_sign s m) ≡ m
-abs_of true m = omega (arith, ints)
-abs_of false m = refl
 
 -- the answer for a number cut off is that for the number itself
 pub near_same : (t : IntType) (s : Bool) (m : ℕ) (b : Bool) → IsType t → ((b ≡ true) ↔ InRange t (with_sign s (min m (2 ^ 65)))) → (if b then Some (with_sign s (min m (2 ^ 65))) else None) ≡ (if is_of t (with_sign s m) then Some (with_sign s m) else None)
@@ -45,13 +19,14 @@ near_same t s m b h w = ⊎_elim near beyond (cases_lt m (2 ^ 65))
     near l =
         let same : min m (2 ^ 65) ≡ m = omega arith in
         let P : ℕ → Type 0 = λ k. InRange t (with_sign s k) in
-        let tests : b ≡ is_of t (with_sign s m) = same_tests b (is_of t (with_sign s m)) (λ e. range_of t (with_sign s m) (subst P same (w.0 e))) (λ e. w.1 (subst P (sym same) (of_range t (with_sign s m) e))) in
+        let tests : b ≡ is_of t (with_sign s m) = same_tests b (is_of t (with_sign s m)) (λ e. of_in_range t (with_sign s m) (subst P same (w.0 e))) (λ e. w.1 (subst P (sym same) (in_range_of t (with_sign s m) e))) in
         ap (λ k. if b then Some (with_sign s k) else None) same ∙ ap (λ c. if c then Some (with_sign s m) else None) tests
 
     beyond : 2 ^ 65 ≤ m → (if b then Some (with_sign s (min m (2 ^ 65))) else None) ≡ (if is_of t (with_sign s m) then Some (with_sign s m) else None)
     beyond l =
-        let no : b ≡ false = false_from_ne_true b (λ e. absurd (omega (arith, abs_bound t (with_sign s (min m (2 ^ 65))) h (w.0 e), abs_of s (min m (2 ^ 65))))) in
-        let none : is_of t (with_sign s m) ≡ false = false_from_ne_true (is_of t (with_sign s m)) (λ e. absurd (omega (arith, abs_bound t (with_sign s m) h (of_range t (with_sign s m) e), abs_of s m))) in
+        let far : is_of t (with_sign s (min m (2 ^ 65))) ≡ false = far_is_none t s (min m (2 ^ 65)) h (omega arith) in
+        let no : b ≡ false = false_from_ne_true b (λ e. true≢false (sym (of_in_range t (with_sign s (min m (2 ^ 65))) (w.0 e)) ∙ far)) in
+        let none : is_of t (with_sign s m) ≡ false = far_is_none t s m h (omega arith) in
         ap (λ c. if c then Some (with_sign s (min m (2 ^ 65))) else None) no ∙ sym (ap (λ c. if c then Some (with_sign s m) else None) none)
 
 -- the answer for a word whose number was cut off

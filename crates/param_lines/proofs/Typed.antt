@@ -12,12 +12,12 @@ use Rattle.soda_ir.specs.Valid.{are_free_names}
 use Rattle.soda_words.specs.Names.{is_free_name}
 use Rattle.soda_eval.specs.Runs.{HasValues, place_types}
 use Rattle.array_bytes.specs.Values.{is_of}
+use Rattle.array_bytes.proofs.CallerLemmas.{in_range_of}
 use Rattle.param_lines.specs.Lines.{rows_of}
 use Rattle.param_lines.specs.Params.{GivesParams, is_fine, is_named, is_of_param, joined, values_at, words_of}
 use Rattle.param_lines.specs.Values.{are_values, decimal_value, is_decimal, is_value_of}
 use Rattle.param_lines.specs.pieces.Slots.{are_apart}
 use Rattle.param_lines.proofs.Named.{no_other}
-use Rattle.param_lines.proofs.Ranged.{of_range}
 
 -- the values of a param, before those of others
 has_front : (t : IntType) (ws : List (List ℕ)) (ts : List IntType) (rest : List ℤ) → list_all (is_value_of t) ws ≡ true → HasValues ts rest → HasValues (replicate (length ws) t ++ ts) (map decimal_value ws ++ rest)
@@ -25,7 +25,7 @@ has_front t [] ts rest h k = k
 has_front t (w ∷ ws) ts rest h k =
     let parts = and_parts (is_value_of t w) (list_all (is_value_of t) ws) h in
     let word = and_parts (is_decimal w) (is_of t (decimal_value w)) parts.0 in
-    (of_range t (decimal_value w) word.1, has_front t ws ts rest parts.1 k)
+    (in_range_of t (decimal_value w) word.1, has_front t ws ts rest parts.1 k)
 
 -- a line is blank or gives a param its values
 abbrev is_row : List PlainParam → List (List ℕ) → Bool

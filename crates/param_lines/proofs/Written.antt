@@ -16,6 +16,7 @@ use Rattle.param_lines.specs.Values.{are_values, decimal_value}
 use Rattle.param_lines.specs.Written.{HaveValues, in_order, params_text, spaced}
 use Rattle.param_lines.specs.pieces.Slots.{are_apart}
 use Rattle.param_lines.proofs.Decimals.{all_back, all_words, are_its_values}
+use Rattle.param_lines.proofs.Named.{fewer_apart}
 use Rattle.param_lines.proofs.Spaced.{line_flat, lines_line, name_word, runs_spaced}
 use Rattle.param_lines.proofs.Typed.{names_apart}
 
@@ -67,9 +68,6 @@ apart_first : (q : PlainParam) (qs : List PlainParam) → are_apart (q ∷ qs) �
 apart_first q qs h =
     not-true (list_any (λ r. is_word q.name r.name) qs) (and_parts (not (list_any (λ r. is_word q.name r.name) qs)) (are_apart qs) h).0
 
-apart_more : (q : PlainParam) (qs : List PlainParam) → are_apart (q ∷ qs) ≡ true → are_apart qs ≡ true
-apart_more q qs h = (and_parts (not (list_any (λ r. is_word q.name r.name) qs)) (are_apart qs) h).1
-
 of_param : (front : List PlainParam) (q : PlainParam) (qs : List PlainParam) (ws : List (List ℕ)) → are_values q ws ≡ true → is_of_param (front ++ q ∷ qs) q.name ws ≡ true
 of_param front q qs ws h =
     list_any-append (λ p. is_word q.name p.name && are_values p ws) front (q ∷ qs) ∙ or_right (is_of_param front q.name ws) (is_of_param (q ∷ qs) q.name ws) (or_left (is_word q.name q.name && are_values q ws) (is_of_param qs q.name ws) (and_from (is_word q.name q.name) (are_values q ws) (is_word-itself q.name) h))
@@ -84,7 +82,7 @@ fine_from front (q ∷ qs) (vs ∷ vss) before a f h zero l =
 fine_from front (q ∷ qs) (vs ∷ vss) before a f h (suc i) l =
     let row = q.name ∷ map signed_decimal vs in
     let rows = written_rows qs vss in
-    let more = fine_from (front ++ q ∷ []) qs vss (before ++ row ∷ []) (apart_more q qs a) (still_fresh qs before q.name (map signed_decimal vs) f.1 (apart_first q qs a)) h.1 i (omega arith) in
+    let more = fine_from (front ++ q ∷ []) qs vss (before ++ row ∷ []) (fewer_apart q qs a) (still_fresh qs before q.name (map signed_decimal vs) f.1 (apart_first q qs a)) h.1 i (omega arith) in
     let params = append_assoc front (q ∷ []) qs in
     let lines_before = append_assoc before (row ∷ []) (take i rows) in
     ap (λ ps. is_fine ps (before ++ row ∷ take i rows) (slice_index_or rows i [])) (sym params)
@@ -105,7 +103,7 @@ values_from all (q ∷ qs) (vs ∷ vss) before e a f h =
     let row = q.name ∷ map signed_decimal vs in
     let rows = written_rows qs vss in
     let found : words_of q.name all ≡ Some (map signed_decimal vs) = ap (words_of q.name) e ∙ words_found q.name before (map signed_decimal vs) rows f.0 in
-    let more = values_from all qs vss (before ++ row ∷ []) (e ∙ sym (append_assoc before (row ∷ []) rows)) (apart_more q qs a) (still_fresh qs before q.name (map signed_decimal vs) f.1 (apart_first q qs a)) h.1 in
+    let more = values_from all qs vss (before ++ row ∷ []) (e ∙ sym (append_assoc before (row ∷ []) rows)) (fewer_apart q qs a) (still_fresh qs before q.name (map signed_decimal vs) f.1 (apart_first q qs a)) h.1 in
     ap (λ (o : Option (List (List ℕ))). joined (option_map (λ ws. map decimal_value ws) o ∷ map (values_at all) qs)) found
     ∙ (ap (option_map (λ rest. map decimal_value (map signed_decimal vs) ++ rest)) more
     ∙ ap (λ (us : List ℤ). Some (us ++ in_order vss)) (all_back q.ty vs h.0.0 h.0.1.in_range))

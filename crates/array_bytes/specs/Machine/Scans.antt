@@ -33,7 +33,8 @@ pub record IsRunOf (r : Run) (bytes : List ℕ) : Type 0 where
 
 -- the number of a run, if it is a cell, where none is farther from 0 than `far`
 unfoldable pub near_value : List ℕ → Option ℤ
-near_value run = if is_cell run then Some (with_sign (begins_minus run) (min (value_behind 0 (behind_sign run)) far)) else None
+near_value run =
+    if is_cell run then Some (with_sign (begins_minus run) (min (value_behind 0 (behind_sign run)) far)) else None
 
 -- the answer about cell number i, whose bytes have this number, if any
 abbrev pub Judges : IntType → ℕ → Option ℤ → Result ℤ CellFault → Type 0

@@ -38,7 +38,8 @@ fill_entry id asked ended n (Err Failed) = Read id asked None ∷ []
 fill_entry id asked ended n (Err f) = []
 
 -- what it does to the files
-pub record FillsFile (given : ℕ) (old new : Store) (id asked : ℕ) (f g : Feed) (result : Result Bool CellFault) : Type 0 where
+pub record FillsFile (given : ℕ) (old new : Store) (id asked : ℕ) (f g : Feed) (result : Result Bool CellFault)
+    : Type 0 where
   pub ids : KeepsIds given old new
   pub bytes : KeepsBytes old new
   pub others : (k : ℕ) → k < given → k ≢ id → new.place k ≡ old.place k

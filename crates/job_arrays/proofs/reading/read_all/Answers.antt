@@ -1,7 +1,8 @@
 use Rattle.std.proofs.Common.{ap, ◌∙◌}
 use Rattle.soda_io.specs.Store.{content}
 use Rattle.bursts.specs.Blocks.{Kind}
-use Rattle.job_arrays.proofs.InARow.{cells_both, content_kept, reads_file}
+use Rattle.bursts.proofs.CallerLemmas.{same_content}
+use Rattle.job_arrays.proofs.InARow.{cells_both, reads_file}
 use Rattle.job_arrays.proofs.reading.read_all.Goals as goal
 
 pub returns-clause-cells : goal.returns-clause-cells
@@ -9,7 +10,7 @@ returns-clause-cells g c = λ told.
     let block = c.in_ok-next_block.ensures in
     let mid = g.F.Files.store c.next_block.new.files in
     cells_both _ _ _ _ c.requires.none (c.next_block.auto.out ∙ c.requires.whole) (block.block told c.requires.fine) c.end.result _ _ block.kind
-    (ap (λ (k : Kind). content mid k.id) block.kind ∙ content_kept _ _ _ _ c.requires.given (block.store told).ids (block.store told).bytes)
+    (ap (λ (k : Kind). content mid k.id) block.kind ∙ same_content _ _ _ _ c.requires.given (block.store told).ids (block.store told).bytes)
     (c.end.ensures.end told block.fault)
 
 pub returns-clause-store : goal.returns-clause-store

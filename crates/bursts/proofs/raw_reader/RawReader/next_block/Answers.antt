@@ -10,11 +10,8 @@ use Rattle.int_types.specs.Ranges.{InRange}
 use Rattle.bursts.specs.Machine.Sources.{RawAt, raw_kind}
 use Rattle.bursts.proofs.OneByOne.{no_read, reads_weaker}
 use Rattle.bursts.proofs.RawSteps.{raw_back, raw_block_fails, raw_kept, raw_reads, wider}
-use Rattle.bursts.proofs.TextSteps.{block_push, err_same, ok_fails, refail}
+use Rattle.bursts.proofs.TextSteps.{block_push, err_same, fewer, ok_fails, refail}
 use Rattle.bursts.proofs.raw_reader.RawReader.next_block.Goals as goal
-
-fewer : (cells out : List ℤ) (i : ℕ) → i < length out → length (cells ++ take i out) < length cells + length out
-fewer cells out i lt = omega (arith, length-append cells (take i out), length-take-le i out (omega arith))
 
 pub returns-in_err-place-clause-at : goal.returns-in_err-place-clause-at
 returns-in_err-place-clause-at g c = λ told cells a.

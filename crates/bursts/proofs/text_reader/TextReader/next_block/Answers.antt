@@ -8,11 +8,8 @@ use Rattle.soda_io.specs.Store.{content}
 use Rattle.soda_words.specs.IntType.{IntType}
 use Rattle.int_types.specs.Ranges.{InRange}
 use Rattle.bursts.specs.Machine.Sources.{TextAt, text_kind}
-use Rattle.bursts.proofs.TextSteps.{block_back, block_fails, block_push, block_reads, both_kinds, err_same, ok_fails, refail}
+use Rattle.bursts.proofs.TextSteps.{block_back, block_fails, block_push, block_reads, both_kinds, err_same, fewer, ok_fails, refail}
 use Rattle.bursts.proofs.text_reader.TextReader.next_block.Goals as goal
-
-fewer : (cells out : List ℤ) (i : ℕ) → i < length out → length (cells ++ take i out) < length cells + length out
-fewer cells out i lt = omega (arith, length-append cells (take i out), length-take-le i out (omega arith))
 
 pub returns-in_err-place-clause-at : goal.returns-in_err-place-clause-at
 returns-in_err-place-clause-at g c = λ told cells a.
