@@ -1,0 +1,4 @@
+use Rattle.lane_rows.proofs.tests.runs.run_wide.Goals as goal
+
+pub run-requires-clause-cells : goal.run-requires-clause-cells
+run-requires-clause-cells c = c.fit.ensures.0 c.if-fit.true

@@ -1,0 +1,4 @@
+mod cells;
+mod formulas;
+mod programs;
+mod runs;

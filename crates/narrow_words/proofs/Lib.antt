@@ -1,0 +1,5 @@
+pub mod Low
+pub mod Recip
+pub mod Cells
+pub mod AsInt32
+pub mod CallerLemmas
