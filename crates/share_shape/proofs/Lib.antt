@@ -1,0 +1,20 @@
+mod Examples
+pub mod CallerLemmas
+pub mod Same
+pub mod Moves
+pub mod Replaced
+pub mod Settled
+pub mod Counting
+pub mod Found
+pub mod Ending
+pub mod Inserted
+pub mod Sides
+pub mod Fit
+pub mod Arrays
+pub mod Exact
+pub mod Sound
+pub mod Left
+pub mod Names
+pub mod Sizes
+pub mod Decent
+pub mod Valid

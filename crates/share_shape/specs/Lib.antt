@@ -1,0 +1,5 @@
+pub mod Shifts
+pub mod Compounds
+pub mod Procedure
+pub mod Limits
+pub mod Counts
