@@ -2,7 +2,7 @@ pub mod Few
 pub mod ArrayLaws
 pub mod Begun
 pub mod Reading
-pub mod Printing
+pub mod LinesPut
 mod Judged
 mod OneDue
 pub mod Memory

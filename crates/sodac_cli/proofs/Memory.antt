@@ -11,7 +11,7 @@ use Rattle.sodac_cli.specs.declared.status.Status.TheVariants as is
 use Rattle.sodac_cli.specs.Correct.{Runs}
 use Rattle.sodac_cli.specs.Due.{DueAfter, DueBy, DueFor, DueIf, DueOf, DueWith, MayAsk, MayAskFor, MayAskIf, accepted, asks_arrays, asks_params, asks_program, bad_params, good_params, refusal_of, refused}
 use Rattle.sodac_cli.specs.Endings.{AsksBy, AsksSome, AsksUntilDue, Ending, due, ending_of, file_fault, memory, out_fault}
-use Rattle.sodac_cli.specs.Printed.{Prints, PrintsAll, PrintsBy, PrintsPrefix, printed}
+use Rattle.sodac_cli.specs.Printed.{Prints, PrintsAll, PrintsBy, PrintsPrefix}
 use Rattle.sodac_cli.specs.Work.{HasProgram, is_built, writes_arrays}
 
 -- what holds of the own status and for want of memory holds of what is answered
@@ -72,12 +72,14 @@ module _ (first : ℕ) (begun : Store) (asked : Option Asked) (given : ℕ) (now
 module _ (h : Holding) (a : Asked) (old new : List ℕ) where
   all_printed : PrintsAll h a old new → (new ≡ old) ⊎ (PrintsPrefix h a old new)
   all_printed t =
-      let lines = printed a.mode t.plain in
+      let count = length t.lines in
       inr (record {
         plain = t.plain;
         program = t.program;
-        count = length lines;
-        some = t.all ∙ ap (λ (xs : List ℕ). old ++ xs) (sym (take_all (length lines) lines (omega arith)));
+        lines = t.lines;
+        are = t.are;
+        count = count;
+        some = t.all ∙ ap (λ (xs : List ℕ). old ++ xs) (sym (take_all count t.lines (omega arith)));
       })
 
   memory_by : (s : Status) → PrintsBy (ending_of s) h a old new s → (new ≡ old) ⊎ (PrintsPrefix h a old new)

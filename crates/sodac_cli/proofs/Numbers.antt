@@ -1,6 +1,6 @@
 -- The input and the output of a number, whose ids and types stand in lists.
 use Rattle.std.proofs.Common.{◌≡◌, ◌<◌, ◌≤◌, ℕ, ◌+◌, List, [], length, get_or, All, Bor, ℤ, refl, sym, ap, ◌∙◌, arith, subst}
-use Rattle.std.proofs.lemmas.List.{length-map}
+use Rattle.std.proofs.lemmas.List.{get_or_default, length-map}
 use Rattle.soda_io.specs.Store.{Store}
 use Rattle.soda_words.specs.IntType.{IntType, int32}
 use Rattle.soda_ir.specs.Program.{PlainProgram, input_types}
@@ -14,7 +14,6 @@ use Rattle.sodac_cli.specs.Machine.Steps.{IsGathering, IsReady, IsSettled, IsWri
 use Rattle.sodac_cli.specs.Work.{input_count, input_names, output_count, output_names, rows_of, text_count}
 use Rattle.sodac_cli.proofs.Numbered.{input_names_length, output_names_length, texts_length}
 use Rattle.sodac_cli.proofs.Ready.{ids_below, ids_length}
-use Rattle.sodac_cli.proofs.Typed.{at_any}
 
 -- an id in a list, from its number
 id_at : (ids : List ℕ) (start count n d : ℕ) → ids ≡ ids_from start count → n < length ids → get_or ids n d ≡ start + n
@@ -36,7 +35,7 @@ module _ (first : ℕ) (begun : Store) (a : Asked) (p : PlainProgram) (values : 
           let more : first + text_count a + number ≡ first + (text_count a + number) = omega arith in
           same ∙ id_at ids (first + text_count a) (input_count p) number d r.ids_are lt ∙ more;
       type_is =
-          alike ∙ at_any types number e int32 (omega (arith, many)) ∙ ap (λ (ts : List IntType). get_or ts number int32) r.types_are;
+          alike ∙ get_or_default types number e int32 (omega (arith, many)) ∙ ap (λ (ts : List IntType). get_or ts number int32) r.types_are;
       layout_is = r.layout_is;
     }
 
@@ -57,7 +56,7 @@ module _ (first : ℕ) (begun : Store) (a : Asked) (p : PlainProgram) (values : 
           let more : first + (text_count a + input_count p) + number ≡ first + (text_count a + input_count p + number) = omega arith in
           same ∙ id_at ids (first + (text_count a + input_count p)) (output_count p) number d w.ids_are lt ∙ more;
       type_is =
-          alike ∙ at_any types number e int32 (omega (arith, many)) ∙ ap (λ (ts : List IntType). get_or ts number int32) w.types_are;
+          alike ∙ get_or_default types number e int32 (omega (arith, many)) ∙ ap (λ (ts : List IntType). get_or ts number int32) w.types_are;
       layout_is = w.layout_is;
       cells_are = is ∙ ap (λ (xs : List (List ℤ)). get_or xs number []) w.arrays_are;
     }

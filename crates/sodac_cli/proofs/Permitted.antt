@@ -5,7 +5,7 @@ use Rattle.command_words.specs.declared.mode.Mode.{Mode}
 use Rattle.command_words.specs.Orders.{Asked}
 use Rattle.sodac_cli.specs.declared.status.Status.{Status}
 use Rattle.sodac_cli.specs.declared.status.Status.TheVariants as is
-use Rattle.sodac_cli.specs.Allowed.{Allows, AllowsCheck, AllowsIf, AllowsMode, AllowsPlain, IsOfPlain}
+use Rattle.sodac_cli.specs.Allowed.{Allows, AllowsIf, AllowsMode, AllowsPlain, AllowsPrinting, IsOfPlain}
 use Rattle.sodac_cli.specs.Machine.Text.{IsOfText}
 use Rattle.sodac_cli.specs.Work.{is_built}
 
@@ -20,16 +20,16 @@ not_out_fault (is.FileFault role) allowed = λ e. absurd (cc)
 not_out_fault is.Memory allowed = λ e. absurd (cc)
 not_out_fault is.NotYetBuilt allowed = absurd allowed
 
--- a status with which the program's file or its text ends a job comes in both modes
-pub text_in_check : (s : Status) → IsOfText s → AllowsCheck s
-text_in_check is.Ok t = absurd t
-text_in_check is.Usage t = absurd t
-text_in_check (is.Program r) t = tt
-text_in_check (is.Array fault) t = absurd t
-text_in_check (is.FileFault role) t = t
-text_in_check is.OutFault t = absurd t
-text_in_check is.Memory t = tt
-text_in_check is.NotYetBuilt t = absurd t
+-- a status with which the program's file or its text ends a job comes in each mode
+pub text_in_printing : (s : Status) → IsOfText s → AllowsPrinting s
+text_in_printing is.Ok t = absurd t
+text_in_printing is.Usage t = absurd t
+text_in_printing (is.Program r) t = tt
+text_in_printing (is.Array fault) t = absurd t
+text_in_printing (is.FileFault role) t = t
+text_in_printing is.OutFault t = absurd t
+text_in_printing is.Memory t = tt
+text_in_printing is.NotYetBuilt t = absurd t
 
 pub text_in_plain : (s : Status) → IsOfText s → AllowsPlain s
 text_in_plain is.Ok t = absurd t

@@ -1,5 +1,5 @@
 -- What isn't printed.
-use Rattle.std.proofs.Common.{◌≡◌, ◌≢◌, ℕ, Bool, true, List, ◌++◌, Option, Some, None, refl, sym, ap, subst, ◌∙◌, append-nil, inl}
+use Rattle.std.proofs.Common.{◌≡◌, ◌≢◌, ℕ, Bool, true, List, [], Option, Some, None, refl, sym, subst, append-nil, inl}
 use Rattle.soda_io.specs.Store.{Store}
 use Rattle.soda_ir.specs.Program.{PlainProgram}
 use Rattle.job_files.specs.Contents.{Holding}
@@ -12,7 +12,7 @@ use Rattle.sodac_cli.specs.declared.status.Status.TheVariants as is
 use Rattle.sodac_cli.specs.Correct.{Runs}
 use Rattle.sodac_cli.specs.Counts.{OutFaults}
 use Rattle.sodac_cli.specs.Due.{DueIf, DueOf, accepted, refused}
-use Rattle.sodac_cli.specs.Printed.{Prints, printed}
+use Rattle.sodac_cli.specs.Printed.{IsPrinted, Prints}
 use Rattle.sodac_cli.specs.Work.{HasProgram, is_built}
 
 -- with another status than Ok, and no fault of `out`, nothing need be printed
@@ -52,6 +52,8 @@ module _ (first : ℕ) (begun : Store) (a : Asked) (given : ℕ) (now : Store) (
       record {
         plain = has.0;
         program = has.1;
-        all = sym (append-nil old) ∙ ap (λ (m : Mode). old ++ printed m has.0) (sym mode);
+        lines = [];
+        are = let Q : Mode → Type 0 = λ m. IsPrinted m has.0 [] in subst Q (sym mode) refl;
+        all = sym (append-nil old);
       }
   plain_prints s r quiet = prints_nothing begun.bytes (Some a) old s (λ e. absurd (cc)) quiet

@@ -29,16 +29,16 @@ IsArrayFault (of.Cell number fault) = IsOfBytes fault
 IsArrayFault (of.Params line) = Unit {0}
 IsArrayFault (of.Stall line) = ⊥
 
--- what `check` can end with: it is built for every program, and asks for the program's file alone
-abbrev pub AllowsCheck : Status → Type 0
-AllowsCheck is.Ok = Unit {0}
-AllowsCheck is.Usage = ⊥
-AllowsCheck (is.Program r) = Unit {0}
-AllowsCheck (is.Array fault) = ⊥
-AllowsCheck (is.FileFault role) = role ≡ Program
-AllowsCheck is.OutFault = Unit {0}
-AllowsCheck is.Memory = Unit {0}
-AllowsCheck is.NotYetBuilt = ⊥
+-- what `check` and `plan` can end with: they are built for every program, and ask for the program's file alone
+abbrev pub AllowsPrinting : Status → Type 0
+AllowsPrinting is.Ok = Unit {0}
+AllowsPrinting is.Usage = ⊥
+AllowsPrinting (is.Program r) = Unit {0}
+AllowsPrinting (is.Array fault) = ⊥
+AllowsPrinting (is.FileFault role) = role ≡ Program
+AllowsPrinting is.OutFault = Unit {0}
+AllowsPrinting is.Memory = Unit {0}
+AllowsPrinting is.NotYetBuilt = ⊥
 
 -- what `plain` can end with: it is built for every program, and prints nothing that could fail
 abbrev pub AllowsPlain : Status → Type 0
@@ -53,9 +53,9 @@ AllowsPlain is.NotYetBuilt = ⊥
 
 -- what a mode that is built can end with
 abbrev pub AllowsMode : Mode → Status → Type 0
-AllowsMode Check status = AllowsCheck status
+AllowsMode Check status = AllowsPrinting status
 AllowsMode Plain status = AllowsPlain status
-AllowsMode Plan status = ⊥
+AllowsMode Plan status = AllowsPrinting status
 AllowsMode Compile status = ⊥
 AllowsMode Sim status = ⊥
 AllowsMode Selftest status = ⊥

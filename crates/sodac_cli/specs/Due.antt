@@ -53,7 +53,8 @@ abbrev pub refusal_at : Stage → Asked → PlainProgram → Option Status
 refusal_at by_names a p = if names_fit a p then None else Some is.Usage
 refusal_at by_limits a p = option_map (λ r. is.Program r) (passed_limit p (rows_of a))
 
--- the steps of a mode, in order; those of modes that aren't built come with them
+-- the steps of a mode, in order: `check` and `plan` refuse no accepted program, and the steps of modes that aren't
+-- built come with them
 abbrev pub stages_of : Mode → List Stage
 stages_of Check = []
 stages_of Plain = by_names ∷ by_limits ∷ []

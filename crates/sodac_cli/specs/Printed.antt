@@ -2,6 +2,7 @@
 use Rattle.std.specs.Prelude.{◌≡◌, ◌⊎◌, ℕ, Bool, true, false, List, [], ◌++◌, take, Option, Some, None}
 use Rattle.soda_ir.specs.Program.{PlainProgram}
 use Rattle.soda_print.specs.Canonical.{canonical}
+use Rattle.plan_job.specs.Plan.{IsPlanText}
 use Rattle.job_files.specs.Contents.{Holding}
 use Rattle.command_words.specs.declared.mode.Mode.{Mode}
 use Rattle.command_words.specs.declared.mode.Mode.TheVariants.{Check, Plain, Plan, Compile, Sim, Selftest}
@@ -15,32 +16,37 @@ use Rattle.sodac_cli.specs.Work.{HasProgram}
 abbrev pub prints : Mode → Bool
 prints Check = true
 prints Plain = false
-prints Plan = false
+prints Plan = true
 prints Compile = false
 prints Sim = false
 prints Selftest = false
 
--- the lines that a mode prints for a program: `check` its canonical text
-abbrev pub printed : Mode → PlainProgram → List ℕ
-printed Check p = canonical p
-printed Plain p = []
-printed Plan p = []
-printed Compile p = []
-printed Sim p = []
-printed Selftest p = []
+-- these are the lines that a mode prints for a program: `check` its canonical text, `plan` its least plan with a
+-- certificate, of which there may be several that fit
+abbrev pub IsPrinted : Mode → PlainProgram → List ℕ → Type 0
+IsPrinted Check p lines = lines ≡ canonical p
+IsPrinted Plain p lines = lines ≡ []
+IsPrinted Plan p lines = IsPlanText p lines
+IsPrinted Compile p lines = lines ≡ []
+IsPrinted Sim p lines = lines ≡ []
+IsPrinted Selftest p lines = lines ≡ []
 
--- the text stands for a program, and all lines that are printed for it were taken
+-- the text stands for a program, and all lines that are printed for it, and nothing else, were taken
 pub record PrintsAll (h : Holding) (a : Asked) (old new : List ℕ) : Type 0 where
   pub plain : PlainProgram
   pub program : HasProgram h a plain
-  pub all : new ≡ old ++ printed a.mode plain
+  pub lines : List ℕ
+  pub are : IsPrinted a.mode plain lines
+  pub all : new ≡ old ++ lines
 
--- the text stands for a program, and a prefix of those lines was taken
+-- the text stands for a program, and a prefix of lines that are printed for it was taken
 pub record PrintsPrefix (h : Holding) (a : Asked) (old new : List ℕ) : Type 0 where
   pub plain : PlainProgram
   pub program : HasProgram h a plain
+  pub lines : List ℕ
+  pub are : IsPrinted a.mode plain lines
   pub count : ℕ
-  pub some : new ≡ old ++ take count (printed a.mode plain)
+  pub some : new ≡ old ++ take count lines
 
 -- what `out` took where a status is due: all the lines at Ok, and nothing where the job is refused
 abbrev pub PrintsDue : Holding → Asked → (old new : List ℕ) → Status → Type 0

@@ -29,7 +29,7 @@ asked_of words = order_of (map string_bytes words)
 abbrev pub is_built_mode : Mode → Bool
 is_built_mode Check = true
 is_built_mode Plain = true
-is_built_mode Plan = false
+is_built_mode Plan = true
 is_built_mode Compile = false
 is_built_mode Sim = false
 is_built_mode Selftest = false

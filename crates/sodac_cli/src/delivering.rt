@@ -13,11 +13,10 @@ ghost use Rattle.sodac_cli.specs.Counts.{FileFaults};
 ghost use Rattle.sodac_cli.specs.Machine.Steps.{IsWriting, WritesOutput, WritesOutputs};
 
 use crate::Status;
-use crate::types::output_types;
 use job_arrays::{Layout, write_array};
 use param_lines::params_are_one;
 use soda_io::{FileRole, Files, IoErr};
-use soda_ir::Program;
+use soda_ir::{Program, types_out};
 use soda_parse::texts_are_one;
 use soda_words::Ty;
 use sqlite_items::Items;
@@ -132,7 +131,7 @@ pub(crate) fn deliver<F: Files>(
     ensures faults { FileFaults (F.faults files.old) (F.faults files.new) result }
     ensures allowed { AllowsPlain result }
 {
-    let Ok(types) = output_types(alloc, program.parts().tensors.as_slice()) else {
+    let Ok(types) = types_out(alloc, program.parts().tensors.as_slice()) else {
         return Status::Memory;
     };
     let status = write_outputs(alloc, files, ids, &types, layout, arrays);

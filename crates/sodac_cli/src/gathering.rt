@@ -13,12 +13,11 @@ ghost use Rattle.sodac_cli.specs.Counts.{FileFaults};
 ghost use Rattle.sodac_cli.specs.Machine.Steps.{IsGathering, IsWriting, ReadsInput, ReadsInputs};
 ghost use Rattle.sodac_cli.specs.Machine.Text.{unread_input};
 
-use crate::types::input_types;
 use crate::{ArrayFault, Status};
 use array_bytes::CellFault;
 use job_arrays::{Layout, read_array};
 use soda_io::{FileRole, Files};
-use soda_ir::Program;
+use soda_ir::{Program, types_in};
 use soda_words::Ty;
 use sqlite_items::Items;
 use std::alloc::Global;
@@ -154,7 +153,7 @@ pub(crate) fn gather<F: Files>(
     ensures faults { IfErr result (λ status. FileFaults (F.faults files.old) (F.faults files.new) status) }
     ensures allowed { IfErr result (λ status. AllowsPlain status) }
 {
-    let Ok(types) = input_types(alloc, program.parts().tensors.as_slice()) else {
+    let Ok(types) = types_in(alloc, program.parts().tensors.as_slice()) else {
         return Err(Status::Memory);
     };
     let found = read_inputs(alloc, files, ids, &types, layout);

@@ -2,7 +2,6 @@
 #![tactic(auto)]
 
 mod arrays;
-mod check;
 mod delivering;
 mod gathering;
 mod judging;
@@ -10,6 +9,7 @@ mod laws;
 mod messages;
 mod params;
 mod plain;
+mod printing;
 mod program;
 mod report;
 mod status;

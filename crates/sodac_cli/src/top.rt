@@ -9,9 +9,9 @@ ghost use Rattle.sodac_cli.specs.Printed.{Prints};
 ghost use Rattle.sodac_cli.specs.Work.{asked_of, is_built};
 
 use crate::Status;
-use crate::check::check;
 use crate::laws::only_one_is_due;
 use crate::plain::plain;
+use crate::printing::print_job;
 use crate::report::report;
 use command_words::{Mode, Order, OrderFail, read_order};
 use soda_io::{Files, Sink};
@@ -22,8 +22,8 @@ fn is_built(order: &Order<'_>) -> bool
     ensures { result ≡ is_built (asked order.now) }
 {
     let mode = match order.mode {
-        Mode::Check | Mode::Plain => true,
-        Mode::Plan | Mode::Compile | Mode::Sim | Mode::Selftest => false,
+        Mode::Check | Mode::Plain | Mode::Plan => true,
+        Mode::Compile | Mode::Sim | Mode::Selftest => false,
     };
     mode && !order.share
 }
@@ -45,9 +45,10 @@ fn run<F: Files, S: Sink>(alloc: Global, order: &Order<'_>, files: &mut F, out: 
         return Status::NotYetBuilt;
     }
     match order.mode {
-        Mode::Check => check(alloc, order, files, out),
+        Mode::Check => print_job(alloc, order, files, out),
+        Mode::Plan => print_job(alloc, order, files, out),
         Mode::Plain => plain(alloc, order, files),
-        Mode::Plan | Mode::Compile | Mode::Sim | Mode::Selftest => Status::NotYetBuilt,
+        Mode::Compile | Mode::Sim | Mode::Selftest => Status::NotYetBuilt,
     }
 }
 
@@ -78,9 +79,10 @@ fn job<F: Files, S: Sink>(alloc: Global, words: &[String], files: &mut F, out: &
 /// do. The first word is the program's own name.
 ///
 /// The status is that of the first refusal or fault, in this order: the words; a mode or a flag that isn't built yet;
-/// the program's file, and its text. In `check` the canonical text is put to `out` then. In `plain` there follow the number
-/// of names and their equality, the limits of the arrays, the params file and its lines, opening the inputs, creating
-/// the outputs, reading each input in order, and writing each output. Want of memory may come in place of any.
+/// the program's file, and its text. In `check` the canonical text is put to `out` then, and in `plan` the least plan
+/// of the program with a certificate. In `plain` there follow the number of names and their equality, the limits of the
+/// arrays, the params file and its lines, opening the inputs, creating the outputs, reading each input in order, and
+/// writing each output. Want of memory may come in place of any.
 pub fn execute<F: Files, S: Sink, E: Sink>(
     alloc: Global,
     words: &[String],

@@ -1,7 +1,6 @@
-ghost use Rattle.std.specs.Prelude.{◌≡◌, ◌≤◌, ◌<◌, [], ◌∷◌, ◌++◌, map, IfOk, OnOk, if◌then◌else◌};
+ghost use Rattle.std.specs.Prelude.{◌≡◌, ◌≤◌, ◌<◌};
 ghost use Rattle.soda_words.specs.Limits.{most_cells};
-ghost use Rattle.soda_ir.specs.Program.{input_types, plain, plain_tensor};
-ghost use Rattle.soda_ir.specs.Valid.{output_types};
+ghost use Rattle.soda_ir.specs.Program.{plain};
 ghost use Rattle.soda_eval.specs.Runs.{cells_at};
 ghost use Rattle.command_words.specs.Orders.{asked};
 ghost use Rattle.sodac_cli.specs.Machine.Steps.{layout_of};
@@ -10,42 +9,8 @@ ghost use Rattle.sodac_cli.specs.Work.{form_of, rows_of, run_of};
 use array_bytes::Form;
 use command_words::Order;
 use job_arrays::Layout;
-use soda_ir::{NoMemory, Program, Tensor};
+use soda_ir::Program;
 use soda_run::array_cells;
-use soda_words::Ty;
-use std::alloc::Global;
-
-// Adds a type, if it is wanted.
-fn push_if(types: &mut Vec<Ty>, wanted: bool, ty: Ty) -> Result<(), NoMemory>
-    ensures { OnOk result (types.new.items ≡ types.old.items ++ (if wanted then ty ∷ [] else [])) }
-{
-    if wanted {
-        types.push(ty)?;
-    }
-    Ok(())
-}
-
-/// The types of the inputs among these tensors, in order.
-pub(crate) fn input_types(alloc: Global, tensors: &[Tensor]) -> Result<Vec<Ty>, NoMemory>
-    ensures { IfOk result (λ types. types.items ≡ input_types (map plain_tensor tensors.now)) }
-{
-    let mut types = Vec::new(alloc);
-    for tensor in tensors {
-        push_if(&mut types, tensor.role.is_input(), tensor.ty)?;
-    }
-    Ok(types)
-}
-
-/// The types of the outputs.
-pub(crate) fn output_types(alloc: Global, tensors: &[Tensor]) -> Result<Vec<Ty>, NoMemory>
-    ensures { IfOk result (λ types. types.items ≡ output_types (map plain_tensor tensors.now)) }
-{
-    let mut types = Vec::new(alloc);
-    for tensor in tensors {
-        push_if(&mut types, tensor.role.is_output(), tensor.ty)?;
-    }
-    Ok(types)
-}
 
 // How many cells of a line: the first extent, and one where there is but one dimension.
 fn run_of(program: &Program) -> u64

@@ -36,6 +36,12 @@ output uint8: o(0) = a(-1) + a(0) + a(1)\n";
 // What the first three parts of it hold.
 const BEGUN: &[u8] = b"kernel: sum3\nburst width: 8\nun";
 
+// The lines of its plan: one certificate fits.
+const PLANNED: &[u8] =
+    b"kernel sum3\ntensor 0 a@1 uint8 delay 0 storage 2\ntensor 1 o@1 uint8 delay 1 storage 0\n\
+read 0 reader 1 of 0 offset -1 age 2 hold 8 need 0\nread 1 reader 1 of 0 offset 0 age 1 hold 0 need 0\n\
+read 2 reader 1 of 0 offset 1 age 0 hold 0 need 8\ntotal bits 16\n";
+
 // The cells `i`.
 const CELLS: &[u8] = b"1\n2\n4\n8\n16\n";
 
@@ -44,6 +50,8 @@ const SUMS: &[u8] = b"0\n7\n14\n28\n0\n";
 const PLAIN: &str = "sodac plain p 5 i o";
 
 const CHECK: &str = "sodac check p";
+
+const PLAN: &str = "sodac plan p";
 
 const IN: Status = Status::FileFault(FileRole::Input(0));
 
@@ -86,7 +94,7 @@ const FAULT: &[u8] = b"sodac: output fault\n";
 const OLD: &[u8] = b"255\n255\n255\n255\n255\n255\n";
 
 // Runs where `o` isn't there before.
-const ROWS: [Row; 29] = [
+const ROWS: &[Row] = &[
     // All is well: the output is created before the input is read.
     (
         PLAIN,
@@ -98,6 +106,7 @@ const ROWS: [Row; 29] = [
         b"orrocrrw",
     ),
     (CHECK, &[], ALL, Status::Ok, [SUM3, b""], None, b"orr"),
+    (PLAN, &[], ALL, Status::Ok, [PLANNED, b""], None, b"orr"),
     // Each call fails in turn.
     (PLAIN, &[0], ALL, TEXT, OF_TEXT, None, b"o"),
     (PLAIN, &[1], ALL, TEXT, OF_TEXT, None, b"or"),
@@ -135,6 +144,25 @@ const ROWS: [Row; 29] = [
         (3, &[]),
         Status::OutFault,
         [BEGUN, FAULT],
+        None,
+        b"orr",
+    ),
+    (PLAN, &[1], ALL, TEXT, OF_TEXT, None, b"or"),
+    (
+        PLAN,
+        &[],
+        (0, &[]),
+        Status::OutFault,
+        [b"", FAULT],
+        None,
+        b"orr",
+    ),
+    (
+        PLAN,
+        &[],
+        (1, &[]),
+        Status::OutFault,
+        [b"kernel sum", FAULT],
         None,
         b"orr",
     ),
@@ -256,7 +284,7 @@ const ROWS: [Row; 29] = [
 ];
 
 // Runs where `o` is there before: it keeps its bytes until it is created, and loses them all then.
-const OVER: [Row; 7] = [
+const OVER: &[Row] = &[
     (
         PLAIN,
         &[],
@@ -366,10 +394,10 @@ fn run(rt: &impl Abort, alloc: Global, row: &Row, old: Option<&[u8]>) -> Result<
 
 #[test]
 fn jobs(rt: HostRuntime) -> Result<(), Fail> {
-    for row in &ROWS {
+    for row in ROWS {
         run(&rt, rt.alloc(), row, None)?;
     }
-    for row in &OVER {
+    for row in OVER {
         run(&rt, rt.alloc(), row, Some(OLD))?;
     }
     assert_eq!(rt; Status::OutFault.number(), 6);

@@ -21,7 +21,7 @@ const NOTHING: &[u8] = b"";
 
 // The file of each call, in order: the program, the params and each input are opened and read to their ends, where the
 // outputs are created behind the openings.
-const ROLES: [FileRole; 16] = [
+const ROLES: &[FileRole] = &[
     FileRole::Program,
     FileRole::Program,
     FileRole::Program,

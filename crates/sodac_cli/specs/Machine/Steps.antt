@@ -1,5 +1,5 @@
 -- Where a job stands between its steps.
-use Rattle.std.specs.Prelude.{◌≡◌, ℕ, zero, suc, ◌+◌, ◌≤◌, ◌<◌, true, List, [], ◌∷◌, ◌++◌, map, take, length, slice_index_or, All, None, ℤ}
+use Rattle.std.specs.Prelude.{◌≡◌, ℕ, zero, suc, ◌+◌, ◌≤◌, ◌<◌, true, false, List, [], ◌∷◌, ◌++◌, map, take, length, slice_index_or, All, None, ℤ}
 use Rattle.soda_io.specs.Store.{KeepsBytes, Store}
 use Rattle.soda_words.specs.IntType.{IntType, int32}
 use Rattle.soda_words.specs.Limits.{most_cells}
@@ -10,10 +10,18 @@ use Rattle.job_arrays.specs.declared.layout.Layout.{Layout}
 use Rattle.job_files.specs.Contents.{Holding, Holds, IsThere, emptied}
 use Rattle.job_files.specs.Files.{JobFile, ids_from}
 use Rattle.job_files.specs.Progress.{Progress}
+use Rattle.command_words.specs.declared.mode.Mode.{Mode}
 use Rattle.command_words.specs.Orders.{Asked}
-use Rattle.sodac_cli.specs.Due.{are_apart, refusal_of}
+use Rattle.sodac_cli.specs.Due.{are_apart, refusal_of, stages_of}
 use Rattle.sodac_cli.specs.Endings.{ReadsFew}
+use Rattle.sodac_cli.specs.Printed.{prints}
 use Rattle.sodac_cli.specs.Work.{HasInputs, HasParams, HasProgram, HoldCells, files_of, form_of, input_count, input_names, inputs_from, is_built, output_count, output_names, output_texts, program_file, rows_of, run_of, text_count, text_names, texts_of, writes_arrays}
+
+-- a mode that prints, judges no accepted program and writes no arrays
+pub record OnlyPrints (mode : Mode) : Type 0 where
+  pub out : prints mode ≡ true
+  pub no_steps : stages_of mode ≡ []
+  pub no_arrays : writes_arrays mode ≡ false
 
 -- no step refuses a program in `plain`
 pub record LetsPass (a : Asked) (p : PlainProgram) : Type 0 where

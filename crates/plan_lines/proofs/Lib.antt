@@ -1,0 +1,3 @@
+pub mod StorageLemmas
+pub mod Written
+mod Examples

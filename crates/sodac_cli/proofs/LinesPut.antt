@@ -1,0 +1,71 @@
+-- A job of a mode that only prints, behind the reading of its program.
+use Rattle.std.proofs.Common.{◌≡◌, ◌≤◌, ℕ, Bool, true, false, List, [], ◌∷◌, ◌++◌, take, length, Result, Ok, Some, None, refl, sym, ap, subst, ◌∙◌, arith}
+use Rattle.soda_io.specs.Store.{Store}
+use Rattle.soda_ir.specs.Program.{PlainProgram}
+use Rattle.std.proofs.lemmas.List.{take_all}
+use Rattle.job_files.specs.Contents.{Holding}
+use Rattle.command_words.specs.declared.mode.Mode.{Mode}
+use Rattle.command_words.specs.declared.mode.Mode.TheVariants.{Check, Plan}
+use Rattle.command_words.specs.Orders.{Asked}
+use Rattle.sodac_cli.specs.declared.status.Status.TheVariants as is
+use Rattle.sodac_cli.specs.Correct.{Runs}
+use Rattle.sodac_cli.specs.Due.{DueOf, Stage, accepted, first_refusal, refusal_of}
+use Rattle.sodac_cli.specs.Machine.Steps.{IsRead, OnlyPrints}
+use Rattle.sodac_cli.specs.Outputs.{Delivers, DeliversIf}
+use Rattle.sodac_cli.specs.Printed.{IsPrinted, PrintsAll, PrintsPrefix}
+use Rattle.sodac_cli.specs.Work.{HasProgram, is_built, program_file}
+use Rattle.sodac_cli.proofs.Begun.{due_built, due_done}
+use Rattle.sodac_cli.proofs.Reading.{read_asks, read_due, read_leaves, read_memory}
+
+pub check_prints : (m : Mode) → m ≡ Check → OnlyPrints m
+check_prints m mode = subst OnlyPrints (sym mode) (record { out = refl; no_steps = refl; no_arrays = refl })
+
+pub plan_prints : (m : Mode) → m ≡ Plan → OnlyPrints m
+plan_prints m mode = subst OnlyPrints (sym mode) (record { out = refl; no_steps = refl; no_arrays = refl })
+
+-- what such a job does with the files
+module _ (p : PlainProgram) (first : ℕ) (begun : Store) (a : Asked) (given : ℕ) (now : Store) (only : OnlyPrints a.mode)
+    (built : is_built a ≡ true) (w : IsRead first begun a p given now) where
+  none : refusal_of a p ≡ None
+  none = ap (λ (stages : List Stage). first_refusal stages a p) only.no_steps
+
+  is_done : DueOf begun.bytes a (program_file a ∷ []) is.Ok
+  is_done = accepted p w.program (due_done begun.bytes a p (program_file a ∷ []) is.Ok none only.no_arrays refl refl)
+
+  delivered : Delivers begun.bytes now.bytes (Some a)
+  delivered = let P : Bool → Type 0 = λ b. DeliversIf b begun.bytes now.bytes a in subst P (sym only.no_arrays) tt
+
+  pub print_done : Runs first begun (Some a) given now is.Ok
+  print_done = read_due first begun a given now built w.keeps w.asked.places w.asked.few w.asked.progress is.Ok refl is_done (λ e. delivered)
+
+  pub print_fault : Runs first begun (Some a) given now is.OutFault
+  print_fault = record {
+    journal = record {
+      files = program_file a ∷ [];
+      due = due_built begun.bytes a built (program_file a ∷ []) is.Ok is_done;
+      asks = read_asks first begun a given now built w.keeps w.asked.places w.asked.few w.asked.progress is.Ok;
+    };
+    files = read_leaves first begun a given now built w.keeps w.asked.places w.asked.few w.asked.progress;
+    delivered = λ e. absurd (cc);
+  }
+
+  pub print_memory : Runs first begun (Some a) given now is.Memory
+  print_memory = read_memory first begun a given now built w.keeps w.asked.places w.asked.few w.asked.progress
+
+-- what is printed of lines of which so many were taken
+module _ (p : PlainProgram) (h : Holding) (a : Asked) (m : Mode) (mode : a.mode ≡ m) (has : HasProgram h a p) (lines : List ℕ)
+    (are : IsPrinted m p lines) (old new : List ℕ) (count : ℕ) (taken : new ≡ old ++ take count lines) where
+  printed : IsPrinted a.mode p lines
+  printed = let P : Mode → Type 0 = λ x. IsPrinted x p lines in subst P (sym mode) are
+
+  pub prints_all : length lines ≤ count → PrintsAll h a old new
+  prints_all whole = record {
+    plain = p;
+    program = has;
+    lines = lines;
+    are = printed;
+    all = taken ∙ ap (λ (xs : List ℕ). old ++ xs) (take_all count lines whole);
+  }
+
+  pub prints_some : PrintsPrefix h a old new
+  prints_some = record { plain = p; program = has; lines = lines; are = printed; count = count; some = taken }
