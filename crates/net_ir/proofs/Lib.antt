@@ -11,3 +11,4 @@ pub mod Facts
 pub mod TwoReads
 pub mod ByPort
 pub mod Visits
+pub mod CallerLemmas

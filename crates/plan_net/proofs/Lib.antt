@@ -1,2 +1,3 @@
-pub mod Steps
+pub mod ByTap
 pub mod Standing
+pub mod Steps

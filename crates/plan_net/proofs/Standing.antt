@@ -13,8 +13,7 @@ use Rattle.net_ir.specs.Nets.{Net}
 use Rattle.net_ir.specs.declared.network.Module.{Module}
 use Rattle.net_ir.specs.declared.network.Module.TheVariants.{Source, Forward, Compute, Sink}
 use Rattle.net_ir.specs.declared.network.Queue.{Queue}
-use Rattle.reuse_chain.proofs.OfLane.{taps_there}
-use Rattle.reuse_chain.proofs.Rising.{Rises, rises}
+use Rattle.reuse_chain.proofs.CallerLemmas.{Rises, rises, taps_there}
 use Rattle.net_shape.specs.Lists.{joined}
 use Rattle.net_shape.specs.Modules.{IsThere, gap_after, gap_of, modules_of, number_of}
 use Rattle.net_shape.specs.Plans.{IsPlan, Plan, age_of, ages_of, taps_at}
@@ -124,11 +123,10 @@ reads_served p v lane tap (n ∷ ns) = by_test ((read_at p n).of == v) (is_at p 
     by_test true b n e = ap (λ xs. cond (is_at p lane tap n) (n ∷ xs) xs) e
     by_test false b n e = e
 
-pub served_is : (p : Plan) (v lane tap : ℕ) (ns : List ℕ) → ns ≡ reads_among p v (length p.reads) → by_receiver (map (serving p v lane tap) (filter (is_at p lane tap) ns)) ≡ served p v lane tap
+pub served_is : (p : Plan) (v lane tap : ℕ) (ns : List ℕ) → ns ≡ filter (is_at p lane tap) (reads_among p v (length p.reads)) → by_receiver (map (serving p v lane tap) ns) ≡ served p v lane tap
 unfolding served
 served_is p v lane tap ns e =
-    ap (λ xs. by_receiver (map (serving p v lane tap) (filter (is_at p lane tap) xs))) e
-    ∙ ap (λ xs. by_receiver (map (serving p v lane tap) xs)) (reads_served p v lane tap (range_with_len 0 (length p.reads)))
+    ap (λ xs. by_receiver (map (serving p v lane tap) xs)) (e ∙ reads_served p v lane tap (range_with_len 0 (length p.reads)))
 
 pub reads_known : (p : Plan) (v k : ℕ) → All (λ n. n < k) (reads_among p v k)
 reads_known p v k =
@@ -225,14 +223,14 @@ drop_whole : (ns : List ℕ) → drop (length ns) ns ≡ []
 drop_whole [] = refl
 drop_whole (n ∷ ns) = drop_whole ns
 
-pub none_left : (f : ℕ → Queue) (q : ℕ → Bool) (ns : List ℕ) → [] ≡ by_receiver (map f (filter q (drop (length ns - 0) ns)))
-none_left f q ns =
+pub none_left : (f : ℕ → Queue) (ns : List ℕ) → [] ≡ by_receiver (map f (drop (length ns - 0) ns))
+none_left f ns =
     let e : length ns - 0 ≡ length ns = omega arith in
-    sym (ap (λ k. by_receiver (map f (filter q (drop k ns)))) e ∙ ap (λ zs. by_receiver (map f (filter q zs))) (drop_whole ns))
+    sym (ap (λ k. by_receiver (map f (drop k ns))) e ∙ ap (λ zs. by_receiver (map f zs)) (drop_whole ns))
 
-pub all_left : (f : ℕ → Queue) (q : ℕ → Bool) (ns : List ℕ) (i : ℕ) → length ns ≤ i → by_receiver (map f (filter q (drop (length ns - i) ns))) ≡ by_receiver (map f (filter q ns))
-all_left f q ns i h =
-    let e : length ns - i ≡ 0 = omega arith in ap (λ k. by_receiver (map f (filter q (drop k ns)))) e
+pub all_left : (f : ℕ → Queue) (ns : List ℕ) (i : ℕ) → length ns ≤ i → by_receiver (map f (drop (length ns - i) ns)) ≡ by_receiver (map f ns)
+all_left f ns i h =
+    let e : length ns - i ≡ 0 = omega arith in ap (λ k. by_receiver (map f (drop k ns))) e
 
 -- the queues of a forwarding module
 pub forward_whole : (p : Plan) → IsPlan p → (v lane tap from place : ℕ) (begun xs ys held : List Queue) → place < length (taps_at p v lane) → get_or (taps_at p v lane) place 0 ≡ tap

@@ -242,20 +242,14 @@ ages_more p ns all xs ys i h e lt g k =
     ∙ sym (map-append (λ n. age_of p (read_at p n)) (take i ns) (get_or ns i 0 ∷ [])) ∙ ap (map (λ n. age_of p (read_at p n))) (sym (take_more ns i 0 h))
 
 -- one queue less is left
-pub less_left : (f : ℕ → Queue) (p : ℕ → Bool) (ns : List ℕ) (i : ℕ) (xs ys : List Queue) → i < length ns → xs ≡ by_receiver (map f (filter p (drop (length ns - i) ns)))
-    → ys ≡ cond (p (get_or ns (length ns - 1 - i) 0)) (put_queue (f (get_or ns (length ns - 1 - i) 0)) xs) xs → ys ≡ by_receiver (map f (filter p (drop (length ns - (i + 1)) ns)))
-less_left f p ns i xs ys h e g =
+pub less_left : (f : ℕ → Queue) (ns : List ℕ) (i : ℕ) (xs ys : List Queue) → i < length ns → xs ≡ by_receiver (map f (drop (length ns - i) ns))
+    → ys ≡ put_queue (f (get_or ns (length ns - 1 - i) 0)) xs → ys ≡ by_receiver (map f (drop (length ns - (i + 1)) ns))
+less_left f ns i xs ys h e g =
     let a : length ns - (i + 1) ≡ length ns - 1 - i = omega arith in
     let b : suc (length ns - 1 - i) ≡ length ns - i = omega arith in
     let whole : drop (length ns - (i + 1)) ns ≡ get_or ns (length ns - 1 - i) 0 ∷ drop (length ns - i) ns = ap (λ k. drop k ns) a ∙ drop-cons ns (length ns - 1 - i) 0 (omega arith)
     ∙ ap (λ k. get_or ns (length ns - 1 - i) 0 ∷ drop k ns) b in
-    g ∙ ap (λ zs. cond (p (get_or ns (length ns - 1 - i) 0)) (put_queue (f (get_or ns (length ns - 1 - i) 0)) zs) zs) e
-    ∙ one (p (get_or ns (length ns - 1 - i) 0)) (get_or ns (length ns - 1 - i) 0) (drop (length ns - i) ns)
-    ∙ ap (λ zs. by_receiver (map f (filter p zs))) (sym whole)
-  where
-    one : (b : Bool) (x : ℕ) (zs : List ℕ) → cond b (put_queue (f x) (by_receiver (map f (filter p zs)))) (by_receiver (map f (filter p zs))) ≡ by_receiver (map f (cond b (x ∷ filter p zs) (filter p zs)))
-    one true x zs = refl
-    one false x zs = refl
+    g ∙ ap (put_queue (f (get_or ns (length ns - 1 - i) 0))) e ∙ ap (λ zs. by_receiver (map f zs)) (sym whole)
 
 -- one queue more is handed on
 pub handed_more : (begun xs ys held : List Queue) (i : ℕ) (q d : Queue) → i < length held → q ≡ get_or held (length held - 1 - i) d → xs ≡ begun ++ take i (reverse held) → ys ≡ xs ++ q ∷ [] → ys ≡ begun ++ take (i + 1) (reverse held)

@@ -5,6 +5,7 @@ ghost use Rattle.plan_net.specs.machine.Tables.{IsChart};
 use crate::NoMemory;
 use crate::layout::Layout;
 use crate::order::{push_all_far, push_blocks};
+use crate::serving::served_of;
 use crate::tables::{readings_of, taps_of};
 use net_ir::Module;
 use sqlite_items::Items;
@@ -14,8 +15,8 @@ use std::alloc::Global;
 #[derive(Drop)]
 pub struct Chart {
     pub(crate) modules: Vec<Module>,
-    pub(crate) readings: Vec<Items<u32>>,
     pub(crate) taps: Vec<Items<u64>>,
+    pub(crate) served: Vec<Items<Items<u32>>>,
     pub(crate) tops: Vec<usize>,
     pub(crate) begins: Vec<usize>,
     pub(crate) nears: Vec<usize>,
@@ -37,6 +38,7 @@ pub fn arrange(alloc: Global, layout: &Layout) -> Result<Chart, NoMemory>
 {
     let readings = readings_of(alloc, layout)?;
     let taps = taps_of(alloc, layout, &readings)?;
+    let served = served_of(alloc, layout, &readings, &taps)?;
     let mut modules = Vec::new(alloc);
     let mut tops = Vec::new(alloc);
     push_all_far(layout, &taps, &mut modules, &mut tops)?;
@@ -53,8 +55,8 @@ pub fn arrange(alloc: Global, layout: &Layout) -> Result<Chart, NoMemory>
     )?;
     Ok(Chart {
         modules,
-        readings,
         taps,
+        served,
         tops,
         begins,
         nears,

@@ -1,4 +1,4 @@
-ghost use Rattle.std.specs.Prelude.{◌≡◌, ◌≢◌, ◌+◌, ◌*◌, ◌<◌, ◌≤◌, ◌^◌, ◌++◌, ◌∷◌, [], Contains, IfOk, OnOk, drop, flat_map, length, reverse, slice_index, slice_index_or, if◌then◌else◌};
+ghost use Rattle.std.specs.Prelude.{◌≡◌, ◌≢◌, ◌+◌, ◌*◌, ◌<◌, ◌≤◌, ◌^◌, ◌++◌, ◌∷◌, [], Contains, IfOk, OnOk, drop, filter, flat_map, length, reverse, slice_index, slice_index_or};
 ghost use Rattle.std.specs.List.Sorted.{IsStrictlyIncreasing};
 ghost use Rattle.net_ir.specs.declared.network.Module.TheVariants.{Source, Forward, Compute, Sink};
 ghost use Rattle.net_shape.specs.Modules.{IsThere, gap_of, modules_of, number_of};
@@ -6,7 +6,7 @@ ghost use Rattle.net_shape.specs.Plans.{IsPlan, age_of, taps_at};
 ghost use Rattle.net_shape.specs.Queues.{network_of, queues_from, put_queue, read_at, reader_of, served, serving, to_sink};
 ghost use Rattle.net_shape.specs.Lists.{joined};
 ghost use Rattle.plan_net.specs.Limits.{most_modules};
-ghost use Rattle.plan_net.specs.machine.Tables.{IsChart, is_at, link_from};
+ghost use Rattle.plan_net.specs.machine.Tables.{IsChart, is_at, link_from, reads_among};
 
 use crate::NoMemory;
 use crate::charts::Chart;
@@ -165,8 +165,29 @@ fn reader_number(layout: &Layout, chart: &Chart, lane: u32, number: u32, sum: u6
     (chart.begins[reader as usize] as u64 + sum % u64::from(layout.unroll())) as u32
 }
 
-// Puts the queue to the computing module of a read in its place among others, if the read belongs to the tap. They are
-// held from the last to the first.
+// The numbers of the reads that belong to the tap of a place of a lane.
+fn tap_reads<'a>(
+    layout: &Layout,
+    chart: &'a Chart,
+    tensor: u32,
+    lane: u32,
+    place: usize,
+) -> &'a [u32]
+    requires chart { IsChart layout.now chart.now }
+    requires tensor { tensor < length layout.now.kinds }
+    requires lane { lane < layout.now.unroll }
+    requires place { place < length (taps_at layout.now tensor lane) }
+    ensures { result.now ≡ filter (is_at layout.now lane (slice_index (taps_at layout.now tensor lane) place))
+        (reads_among layout.now tensor (length layout.now.reads)) }
+{
+    match chart.served[lane_place(tensor, lane, layout.unroll())].get(place) {
+        Some(numbers) => numbers.as_slice(),
+        None => &[],
+    }
+}
+
+// Puts the queue to the computing module of a read of a tap in its place among others, which are held from the last to
+// the first.
 fn serve(
     layout: &Layout,
     chart: &Chart,
@@ -181,26 +202,23 @@ fn serve(
     requires lane { lane.1 < layout.now.unroll }
     requires port { port < length layout.now.reads }
     requires from { from ≡ number_of layout.now (Forward lane.0 lane.1 tap) }
-    ensures { OnOk result (reverse held.new.items ≡ (if is_at layout.now lane.1 tap port
-        then put_queue (serving layout.now lane.0 lane.1 tap port) (reverse held.old.items)
-        else reverse held.old.items)) }
+    ensures { OnOk result (reverse held.new.items
+        ≡ put_queue (serving layout.now lane.0 lane.1 tap port) (reverse held.old.items)) }
 {
     let sum = u64::from(lane.1) + layout.ages()[port as usize];
-    if sum / u64::from(layout.unroll()) == tap {
-        let to = reader_number(layout, chart, lane.1, port, sum);
-        let queue = Queue {
-            from,
-            to,
-            port,
-            capacity: 1,
-            lead: tap,
-        };
-        put_queue(held, queue)?;
-    }
-    Ok(())
+    let to = reader_number(layout, chart, lane.1, port, sum);
+    let queue = Queue {
+        from,
+        to,
+        port,
+        capacity: 1,
+        lead: tap,
+    };
+    put_queue(held, queue)
 }
 
-// The queues from a forwarding module to the computing modules that its tap serves, from the last to the first.
+// The queues from a forwarding module to the computing modules that its tap serves, whose reads these are, from the
+// last to the first.
 fn serve_all(
     alloc: Global,
     layout: &Layout,
@@ -208,15 +226,16 @@ fn serve_all(
     from: u32,
     lane: (u32, u32),
     tap: u64,
+    numbers: &[u32],
 ) -> Result<Vec<Queue>, NoMemory>
     requires chart { IsChart layout.now chart.now }
     requires few { length (modules_of layout.now) ≤ most_modules }
-    requires tensor { lane.0 < length layout.now.kinds }
     requires lane { lane.1 < layout.now.unroll }
+    requires numbers { numbers.now ≡ filter (is_at layout.now lane.1 tap)
+        (reads_among layout.now lane.0 (length layout.now.reads)) }
     requires from { from ≡ number_of layout.now (Forward lane.0 lane.1 tap) }
     ensures { IfOk result (λ held. reverse held.items ≡ served layout.now lane.0 lane.1 tap) }
 {
-    let numbers = chart.readings[lane.0 as usize].as_slice();
     let mut held = Vec::new(alloc);
     for passed in 0..numbers.len() {
         let port = numbers[numbers.len() - 1 - passed];
@@ -244,7 +263,8 @@ fn push_forward(
 {
     let place = tap_place(lane_taps(layout, chart, lane.0, lane.1), tap);
     push_link(layout, chart, from, lane, place + 1, queues)?;
-    let held = serve_all(alloc, layout, chart, from, lane, tap)?;
+    let numbers = tap_reads(layout, chart, lane.0, lane.1, place);
+    let held = serve_all(alloc, layout, chart, from, lane, tap, numbers)?;
     push_held(&held, queues)
 }
 

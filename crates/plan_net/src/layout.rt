@@ -43,8 +43,8 @@ impl Layout {
         delays: Vec<u64>,
         ages: Vec<u64>,
     ) -> Layout
-        requires { IsLayout (record { unroll = unroll; kinds = kinds.items; reads = reads.items; delays = delays.items })
-            ages.items }
+        requires { IsLayout
+            (record { unroll = unroll; kinds = kinds.items; reads = reads.items; delays = delays.items }) ages.items }
         ensures { result ≡ record { unroll = unroll; kinds = kinds.items; reads = reads.items; delays = delays.items } }
     {
         Layout {

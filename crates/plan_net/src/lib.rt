@@ -6,6 +6,7 @@ mod ends;
 mod joins;
 mod layout;
 mod order;
+mod serving;
 mod tables;
 
 pub use charts::{Chart, arrange};

@@ -12,12 +12,12 @@ use reuse_chain::taps;
 use sqlite_items::Items;
 use std::alloc::Global;
 
-// As many empty lists.
-fn no_readings(alloc: Global, tensors: usize) -> Result<Vec<Items<u32>>, NoMemory>
-    ensures { IfOk result (λ lists. lists.items ≡ replicate tensors []) }
+/// As many empty lists.
+pub(crate) fn empty_lists(alloc: Global, count: usize) -> Result<Vec<Items<u32>>, NoMemory>
+    ensures { IfOk result (λ lists. lists.items ≡ replicate count []) }
 {
     let mut lists = Vec::new(alloc);
-    for _tensor in 0..tensors {
+    for _list in 0..count {
         lists.push(Items::new(alloc))?;
     }
     Ok(lists)
@@ -37,7 +37,7 @@ fn add_reading(readings: &mut Vec<Items<u32>>, layout: &Layout, number: u32) -> 
 pub(crate) fn readings_of(alloc: Global, layout: &Layout) -> Result<Vec<Items<u32>>, NoMemory>
     ensures { IfOk result (λ readings. AreReads layout.now (length layout.now.reads) readings.items) }
 {
-    let mut readings = no_readings(alloc, layout.kinds().len())?;
+    let mut readings = empty_lists(alloc, layout.kinds().len())?;
     for number in 0..layout.reads().len() as u32 {
         add_reading(&mut readings, layout, number)?;
     }

@@ -15,7 +15,8 @@ abbrev pub Rises : List ℕ → Type 0
 Rises [] = Unit {0}
 Rises (x ∷ xs) = All (λ y. x < y) xs × Rises xs
 
-by_pairs : (xs : List ℕ) → AllPairs (λ x y. x < y) xs → Rises xs
+-- and so a list rises that does so by pairs
+pub by_pairs : (xs : List ℕ) → AllPairs (λ x y. x < y) xs → Rises xs
 by_pairs [] pairs = tt
 by_pairs (x ∷ xs) pairs =
     (λ k d h. pairs 0 (suc k) d (omega arith) (omega arith), by_pairs xs (λ i j d p q. pairs (suc i) (suc j) d (omega arith) (omega arith)))

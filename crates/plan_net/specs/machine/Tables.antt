@@ -1,5 +1,5 @@
 -- What the code has in hand while it makes a network.
-use Rattle.std.specs.Prelude.{◌≡◌, ◌<◌, ◌+◌, ◌/◌, ℕ, Bool, true, false, max, ◌==◌, List, [], ◌∷◌, filter, length, slice_index_or}
+use Rattle.std.specs.Prelude.{◌≡◌, ◌<◌, ◌+◌, ◌/◌, ℕ, Bool, true, false, max, ◌==◌, List, [], ◌∷◌, filter, length, map, slice_index_or}
 use Rattle.std.specs.List.{range_with_len}
 use Rattle.net_ir.specs.declared.network.Module.TheVariants.{Forward}
 use Rattle.net_ir.specs.declared.network.Queue.{Queue}
@@ -25,11 +25,23 @@ pub record AreReads (p : Plan) (k : ℕ) (readings : List (List ℕ)) : Type 0 w
   pub whole : length readings ≡ length p.kinds
   pub each : (v : ℕ) → v < length p.kinds → slice_index_or readings v [] ≡ reads_among p v k
 
--- the modules of a plan, the reads of its tensors, the taps of its lanes, and where modules begin
+-- the read of a number belongs to the tap at the lane
+abbrev pub is_at : Plan → (lane tap n : ℕ) → Bool
+is_at p lane tap n = (lane + age_of p (read_at p n)) / p.unroll == tap
+
+-- at each of these taps of a lane, those of these reads that belong to it
+abbrev pub by_tap : Plan → (lane : ℕ) → (taps numbers : List ℕ) → List (List ℕ)
+by_tap p lane taps numbers = map (λ tap. filter (is_at p lane tap) numbers) taps
+
+-- at each tap of a lane of a tensor, the reads that belong to it
+abbrev pub served_at : Plan → (v lane : ℕ) → List (List ℕ)
+served_at p v lane = by_tap p lane (taps_at p v lane) (reads_among p v (length p.reads))
+
+-- the modules of a plan, the taps of its lanes with the reads that belong to them, and where modules begin
 pub record IsChart (p : Plan) (chart : Chart) : Type 0 where
   pub modules : chart.modules.items ≡ modules_of p
-  pub readings : AreReads p (length p.reads) chart.readings.items
   pub taps : chart.taps.items ≡ by_lane p (taps_at p)
+  pub served : chart.served.items ≡ by_lane p (served_at p)
   pub tops : chart.tops.items ≡ by_lane p (far_lane_begin p)
   pub begins : chart.begins.items ≡ joined (λ v. block_begin p v ∷ []) (length p.kinds)
   pub nears : chart.nears.items ≡ by_lane p (near_begin p)
@@ -45,10 +57,6 @@ link_from p from v lane (tap ∷ taps) = record {
   capacity = max 1 (gap_of (taps_at p v lane) tap);
   lead = 0;
 } ∷ []
-
--- the read of a number belongs to the tap at the lane
-abbrev pub is_at : Plan → (lane tap n : ℕ) → Bool
-is_at p lane tap n = (lane + age_of p (read_at p n)) / p.unroll == tap
 
 -- a tensor is an input, or it goes to a sink
 abbrev pub is_source : Kind → Bool

@@ -10,8 +10,8 @@ returns c =
     record {
       modules = modules_whole p c.push_blocks.new.modules.items
           (c.in_ok-push_blocks.ensures.modules ∙ ap (λ ms. ms ++ joined (block p) (length p.kinds)) c.in_ok-push_all_far.ensures.modules);
-      readings = c.in_ok-readings.ensures;
       taps = c.in_ok-taps.ensures;
+      served = c.in_ok-served.ensures;
       tops = c.in_ok-push_all_far.ensures.tops;
       begins = c.in_ok-push_blocks.ensures.begins;
       nears = c.in_ok-push_blocks.ensures.nears;

@@ -1,5 +1,5 @@
 use Rattle.std.proofs.Common.{◌≡◌, ◌+◌, ◌-◌, ◌∙◌, ap, sym, arith, get_or}
-use Rattle.reuse_chain.proofs.Rising.{rises}
+use Rattle.reuse_chain.proofs.CallerLemmas.{rises}
 use Rattle.net_shape.specs.Modules.{gap_of}
 use Rattle.plan_net.proofs.Standing.{gap_place}
 use Rattle.plan_net.proofs.joins.gap_at.Goals as goal
