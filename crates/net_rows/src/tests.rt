@@ -1,0 +1,4 @@
+mod firings;
+mod limits;
+mod networks;
+mod plans;
