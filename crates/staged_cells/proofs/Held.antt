@@ -25,7 +25,8 @@ abbrev served : Parts → List StagedTensor → List Read → (number turn : ℕ
 served q ts rs v turn vals y o =
     slice_index_or vals (port_of rs v (number_read (plain q) ts turn y) (linear (extents_at (plain q) 1) o)) (pos 0)
 
-pub port_value_is : (R : Ports) (q : Parts) (v : ℕ) (s : StagedTensor) (values : List ℤ) → R.parts.now ≡ q → R.tensors.now ≡ staged_tensors (plain q) → R.reads.now ≡ staged_reads (plain q) → R.number ≡ v → R.turn ≡ s.turn → R.values.now ≡ values
+pub port_value_is : (R : Ports) (q : Parts) (v : ℕ) (s : StagedTensor) (values : List ℤ) → R.parts.now ≡ q → R.tensors.now ≡ staged_tensors (plain q)
+    → R.reads.now ≡ staged_reads (plain q) → R.number ≡ v → R.turn ≡ s.turn → R.values.now ≡ values
     → port_value R ≡ held (plain q) v s values
 port_value_is R q v s values a b c d e f =
     ap (λ (z : Parts). served z R.tensors.now R.reads.now R.number R.turn R.values.now) a
@@ -38,9 +39,11 @@ port_value_is R q v s values a b c d e f =
 -- what a border is, by the parts that say it
 abbrev pub bordered : Parts → List StagedTensor → List Read → (number turn : ℕ) → List ℤ → ℕ → ℤ
 bordered q ts rs v turn vals x =
-    if preserves (plain q) && is_output (plain q) x then slice_index_or vals (port_of rs v (number_read (plain q) ts turn (output_number (plain q) x)) (pos 0)) (pos 0) else pos 0
+    if preserves (plain q) && is_output (plain q) x then slice_index_or vals
+    (port_of rs v (number_read (plain q) ts turn (output_number (plain q) x)) (pos 0)) (pos 0) else pos 0
 
-pub border_is_outer : (R : Ports) (r q : Parts) (v : ℕ) (s : StagedTensor) (values : List ℤ) → r ≡ q → R.tensors.now ≡ staged_tensors (plain q) → R.reads.now ≡ staged_reads (plain q) → R.number ≡ v → R.turn ≡ s.turn → R.values.now ≡ values
+pub border_is_outer : (R : Ports) (r q : Parts) (v : ℕ) (s : StagedTensor) (values : List ℤ) → r ≡ q → R.tensors.now ≡ staged_tensors (plain q)
+    → R.reads.now ≡ staged_reads (plain q) → R.number ≡ v → R.turn ≡ s.turn → R.values.now ≡ values
     → bordered r R.tensors.now R.reads.now R.number R.turn R.values.now s.tensor ≡ outer_cell (plain q) v s values
 unfolding outer_cell
 border_is_outer R r q v s values a b c d e f =
@@ -57,12 +60,14 @@ unfolding inner_cell
 inner_is p params v s values h e =
     ap (λ (k : ℕ → List ℤ → ℤ). wrapped (type_of p s.tensor) (by_formula (formula_in p s.tensor) (pos 0) (valued (scope_of p) k params))) e
 
-pub sent_inside : (p : PlainProgram) (rows : ℕ) (params : List ℤ) (v : ℕ) (s : StagedTensor) (values : List ℤ) (i : ℕ) → keeps_away (extents_at p rows) s.low s.high (point (extents_at p rows) i) ≡ true → inner_cell p params v s values ≡ sent_at p rows params v s values i
+pub sent_inside : (p : PlainProgram) (rows : ℕ) (params : List ℤ) (v : ℕ) (s : StagedTensor) (values : List ℤ) (i : ℕ)
+    → keeps_away (extents_at p rows) s.low s.high (point (extents_at p rows) i) ≡ true → inner_cell p params v s values ≡ sent_at p rows params v s values i
 unfolding sent_at
 sent_inside p rows params v s values i e =
     sym (ap (λ b. if b then inner_cell p params v s values else outer_cell p v s values) e)
 
-pub sent_outside : (p : PlainProgram) (rows : ℕ) (params : List ℤ) (v : ℕ) (s : StagedTensor) (values : List ℤ) (i : ℕ) → keeps_away (extents_at p rows) s.low s.high (point (extents_at p rows) i) ≡ false → outer_cell p v s values ≡ sent_at p rows params v s values i
+pub sent_outside : (p : PlainProgram) (rows : ℕ) (params : List ℤ) (v : ℕ) (s : StagedTensor) (values : List ℤ) (i : ℕ)
+    → keeps_away (extents_at p rows) s.low s.high (point (extents_at p rows) i) ≡ false → outer_cell p v s values ≡ sent_at p rows params v s values i
 unfolding sent_at
 sent_outside p rows params v s values i e =
     sym (ap (λ b. if b then inner_cell p params v s values else outer_cell p v s values) e)
@@ -72,22 +77,26 @@ there_by : (b : Bool) (i k : ℕ) (F : ℕ → ℤ) → Some k ≡ (if b then So
 there_by true i k F e = ap F (some_same k i e)
 there_by false i k F e = cc
 
-pub sent_there : (p : PlainProgram) (rows : ℕ) (params : List ℤ) (v : ℕ) (s : StagedTensor) (values : List ℤ) (z : ℤ) (k : ℕ) → Some k ≡ place_in (cells_at p rows) z → sent_at p rows params v s values k ≡ sent_cell p rows params v s values z
+pub sent_there : (p : PlainProgram) (rows : ℕ) (params : List ℤ) (v : ℕ) (s : StagedTensor) (values : List ℤ) (z : ℤ) (k : ℕ)
+    → Some k ≡ place_in (cells_at p rows) z → sent_at p rows params v s values k ≡ sent_cell p rows params v s values z
 unfolding sent_cell sent_at
 sent_there p rows params v s values (pos i) k e =
-    there_by (nat_lt i (cells_at p rows)) i k (λ j. if keeps_away (extents_at p rows) s.low s.high (point (extents_at p rows) j) then inner_cell p params v s values else outer_cell p v s values) e
+    there_by (nat_lt i (cells_at p rows)) i k
+    (λ j. if keeps_away (extents_at p rows) s.low s.high (point (extents_at p rows) j) then inner_cell p params v s values else outer_cell p v s values) e
 sent_there p rows params v s values (negsuc i) k e = cc
 
 none_by : (b : Bool) (i : ℕ) (w : ℤ) → None ≡ (if b then Some i else None) → pos 0 ≡ (if b then w else pos 0)
 none_by true i w e = cc
 none_by false i w e = refl
 
-pub sent_nowhere : (p : PlainProgram) (rows : ℕ) (params : List ℤ) (v : ℕ) (s : StagedTensor) (values : List ℤ) (z : ℤ) → None ≡ place_in (cells_at p rows) z → pos 0 ≡ sent_cell p rows params v s values z
+pub sent_nowhere : (p : PlainProgram) (rows : ℕ) (params : List ℤ) (v : ℕ) (s : StagedTensor) (values : List ℤ) (z : ℤ) → None ≡ place_in (cells_at p rows) z
+    → pos 0 ≡ sent_cell p rows params v s values z
 unfolding sent_cell
 sent_nowhere p rows params v s values (pos i) e = none_by (nat_lt i (cells_at p rows)) i _ e
 sent_nowhere p rows params v s values (negsuc i) e = refl
 
-pub defined_nowhere : (p : PlainProgram) (rows : ℕ) (params : List ℤ) (inputs : List (List ℤ)) (s : StagedTensor) (z : ℤ) → None ≡ place_in (cells_at p rows) z → pos 0 ≡ defined_cell p rows params inputs s z
+pub defined_nowhere : (p : PlainProgram) (rows : ℕ) (params : List ℤ) (inputs : List (List ℤ)) (s : StagedTensor) (z : ℤ)
+    → None ≡ place_in (cells_at p rows) z → pos 0 ≡ defined_cell p rows params inputs s z
 unfolding defined_cell
 defined_nowhere p rows params inputs s (pos i) e = none_by (nat_lt i (cells_at p rows)) i _ e
 defined_nowhere p rows params inputs s (negsuc i) e = refl

@@ -1,5 +1,5 @@
 -- What a computing module sends is the defined cell, where its ports hold the defined cells of what is read.
-use Rattle.std.proofs.Common.{◌≡◌, ℕ, zero, suc, ◌+◌, ◌-◌, ◌<◌, ◌≢◌, ◌⊎◌, Bool, true, false, not, ◌&&◌, ◌||◌, ◌==◌, List, [], ◌∷◌, ◌++◌, length, map, get_or, Option, Some, None, slice_get, slice_index_or, nat_lt, refl, sym, ◌∙◌, ap, subst, arith, ⊎_elim, inl, inr, if◌then◌else◌, eq-eqb, ℤ, pos, negsuc, ◌+ℤ◌, unsigned_abs}
+use Rattle.std.proofs.Common.{◌≡◌, ℕ, zero, suc, ◌+◌, ◌-◌, ◌<◌, ◌≢◌, Bool, true, false, not, ◌&&◌, ◌||◌, ◌==◌, List, [], ◌∷◌, ◌++◌, length, map, get_or, Option, Some, None, slice_get, slice_index_or, nat_lt, refl, sym, ◌∙◌, ap, subst, arith, ⊎_elim, if◌then◌else◌, eq-eqb, ℤ, pos, negsuc, ◌+ℤ◌, unsigned_abs}
 use Rattle.std.specs.List.{list_any, position_or_len}
 use Rattle.std.specs.Ordering.{int_eq}
 use Rattle.std.proofs.lemmas.Bool.{and_from, and_parts, eqb-true, false≢true, lt-ltb, ltb-true, or_cases, or_left, or_right, true≢false}
@@ -71,7 +71,9 @@ own_reads ns (unary op a) = own_reads ns a
 own_reads ns (binary op a b) =
     let x = formula_reads ns a in
     let y = formula_reads ns b in
-    and_from (every (is_read_in ns (x ++ y)) a) (every (is_read_in ns (x ++ y)) b) (every_weaker (is_read_in ns x) (is_read_in ns (x ++ y)) (in_first ns x y) a (own_reads ns a)) (every_weaker (is_read_in ns y) (is_read_in ns (x ++ y)) (in_second ns x y) b (own_reads ns b))
+    and_from (every (is_read_in ns (x ++ y)) a) (every (is_read_in ns (x ++ y)) b)
+    (every_weaker (is_read_in ns x) (is_read_in ns (x ++ y)) (in_first ns x y) a (own_reads ns a))
+    (every_weaker (is_read_in ns y) (is_read_in ns (x ++ y)) (in_second ns x y) b (own_reads ns b))
 own_reads ns (choice c a b) =
     let z = formula_reads ns c in
     let x = formula_reads ns a in
@@ -79,7 +81,8 @@ own_reads ns (choice c a b) =
     let all = z ++ (x ++ y) in
     let test = is_read_in ns all in
     and_from (every test c && every test a) (every test b)
-    (and_from (every test c) (every test a) (every_weaker (is_read_in ns z) test (in_first ns z (x ++ y)) c (own_reads ns c)) (every_weaker (is_read_in ns x) test (λ t o h. in_second ns z (x ++ y) t o (in_first ns x y t o h)) a (own_reads ns a)))
+    (and_from (every test c) (every test a) (every_weaker (is_read_in ns z) test (in_first ns z (x ++ y)) c (own_reads ns c))
+    (every_weaker (is_read_in ns x) test (λ t o h. in_second ns z (x ++ y) t o (in_first ns x y t o h)) a (own_reads ns a)))
     (every_weaker (is_read_in ns y) test (λ t o h. in_second ns z (x ++ y) t o (in_second ns x y t o h)) b (own_reads ns b))
 own_reads ns (cast t a) = own_reads ns a
 
@@ -101,25 +104,30 @@ border_first Input k ts = refl
 border_first Local k ts = refl
 border_first Output k ts = refl
 
-border_next : (r : Role) (k x : ℕ) (ts : List PlainTensor) → slice_index_or (with_border r k ts) (suc x) None ≡ slice_index_or (borders_from (k + bit (is_output_role r)) ts) x None
+border_next : (r : Role) (k x : ℕ) (ts : List PlainTensor)
+    → slice_index_or (with_border r k ts) (suc x) None ≡ slice_index_or (borders_from (k + bit (is_output_role r)) ts) x None
 border_next Input k x ts = ap (λ j. slice_index_or (borders_from j ts) x None) (let e : k ≡ k + 0 = omega arith in e)
 border_next Local k x ts = ap (λ j. slice_index_or (borders_from j ts) x None) (let e : k ≡ k + 0 = omega arith in e)
 border_next Output k x ts = ap (λ j. slice_index_or (borders_from j ts) x None) (let e : suc k ≡ k + 1 = omega arith in e)
 
-border_number : (k : ℕ) (ts : List PlainTensor) (x : ℕ) → slice_index_or (borders_from k ts) x None ≡ (if output_in ts x then Some (k + count_below (output_in ts) x) else None)
+border_number : (k : ℕ) (ts : List PlainTensor) (x : ℕ)
+    → slice_index_or (borders_from k ts) x None ≡ (if output_in ts x then Some (k + count_below (output_in ts) x) else None)
 border_number k [] x = refl
 border_number k (t ∷ ts) zero =
     border_first t.role k ts ∙ ap (λ j. if is_output_role t.role then Some j else None) (let e : k ≡ k + 0 = omega arith in e)
 border_number k (t ∷ ts) (suc x) =
     border_next t.role k x ts
     ∙ border_number (k + bit (is_output_role t.role)) ts x
-    ∙ ap (λ j. if output_in ts x then Some j else None) (let e : (k + bit (is_output_role t.role)) + count_below (output_in ts) x ≡ k + count_below (output_in (t ∷ ts)) (suc x) = omega (arith, count_first (output_in (t ∷ ts)) x) in e)
+    ∙ ap (λ j. if output_in ts x then Some j else None)
+    (let e : (k + bit (is_output_role t.role)) + count_below (output_in ts) x ≡ k + count_below (output_in (t ∷ ts)) (suc x) = omega
+    (arith, count_first (output_in (t ∷ ts)) x) in e)
 
 border_by : (b : Border) (ts : List PlainTensor) (x : ℕ) → slice_index_or (elim b [ Ignore ↦ [] | Preserve ↦ borders_from 0 ts ]) x None
     ≡ (if elim b [ Ignore ↦ false | Preserve ↦ true ] && output_in ts x then Some (count_below (output_in ts) x) else None)
 border_by Ignore ts x = refl
 border_by Preserve ts x =
-    border_number 0 ts x ∙ ap (λ j. if output_in ts x then Some j else None) (let e : 0 + count_below (output_in ts) x ≡ count_below (output_in ts) x = omega arith in e)
+    border_number 0 ts x ∙ ap (λ j. if output_in ts x then Some j else None)
+    (let e : 0 + count_below (output_in ts) x ≡ count_below (output_in ts) x = omega arith in e)
 
 border_is : (p : PlainProgram) (x : ℕ) → slice_index_or (borders_of p) x None ≡ (if preserves p && is_output p x then Some (output_number p x) else None)
 border_is p x = border_by p.border p.tensors x
@@ -129,7 +137,8 @@ border_read true j e = or_left (j == j && int_eq (pos 0) (pos 0)) false (itself 
 border_read false j e = absurd (false≢true e)
 
 -- a value at its place is of its type
-value_at_place : (types : List IntType) (vs : List ℤ) (j : ℕ) → HasValues types vs → j < length types → InRange (slice_index_or types j int32) (slice_index_or vs j (pos 0))
+pub value_at_place : (types : List IntType) (vs : List ℤ) (j : ℕ) → HasValues types vs → j < length types
+    → InRange (slice_index_or types j int32) (slice_index_or vs j (pos 0))
 value_at_place [] [] j h l = absurd (omega arith)
 value_at_place [] (w ∷ ws) j h l = absurd h
 value_at_place (t ∷ ts) [] j h l = absurd h
@@ -139,7 +148,8 @@ value_at_place (t ∷ ts) (w ∷ ws) (suc j) h l = value_at_place ts ws j h.1 (o
 some_read : Read
 some_read = record { reader = 0; of = 0; offset = pos 0 }
 
-module _ (p : PlainProgram) (sound : IsSound p) (rows : ℕ) (params : List ℤ) (inputs : List (List ℤ)) (v : ℕ) (s : StagedTensor) (e : slice_get (staged_tensors p) v ≡ Some s) where
+module _ (p : PlainProgram) (sound : IsSound p) (rows : ℕ) (params : List ℤ) (inputs : List (List ℤ)) (v : ℕ) (s : StagedTensor)
+    (e : slice_get (staged_tensors p) v ≡ Some s) where
   abbrev ts : List StagedTensor
   ts = staged_tensors p
 
@@ -169,10 +179,12 @@ module _ (p : PlainProgram) (sound : IsSound p) (rows : ℕ) (params : List ℤ)
       ∙ ap (λ (u : StagedTensor). keeps_away box u.low u.high q) (sym (own_margins p v s e))
 
   -- the cells of an input are those that its iteration begins with
-  input_cell : (h : Given) (j : ℕ) (q : List ℤ) → is_input p j ≡ true → cell stencil h params (length p.tensors) j q ≡ h.cell j q
+  pub input_cell : (h : Given) (j : ℕ) (q : List ℤ) → is_input p j ≡ true → cell stencil h params (length p.tensors) j q ≡ h.cell j q
   input_cell h j q i =
       (means h).cells j q
-      ∙ ap (λ o. by_formula o (h.cell j q) (λ f. if in_region stencil h (length p.tensors) j q then wrapped (type_at stencil j) (valued stencil.scope (λ y o. cell stencil h params (length p.tensors) y (moved q o)) params f) else outside_cell stencil h j q)) (input_bare p.tensors j sound.parts.formulas i)
+      ∙ ap (λ o. by_formula o (h.cell j q) (λ f. if in_region stencil h (length p.tensors) j q then wrapped (type_at stencil j)
+      (valued stencil.scope (λ y o. cell stencil h params (length p.tensors) y (moved q o)) params f) else outside_cell stencil h j q))
+      (input_bare p.tensors j sound.parts.formulas i)
 
   -- the cell of what is read, as a staged tensor
   source_cell : (y : ℕ) (q : List ℤ) → cell_at p rows params inputs (source_of p s.turn y) q ≡ value y q
@@ -198,7 +210,8 @@ module _ (p : PlainProgram) (sound : IsSound p) (rows : ℕ) (params : List ℤ)
       ∙ ap (λ j. cell stencil (run_of p rows params inputs j) params (length p.tensors) y q) same)
       (true_or_not c)
 
-  defined_there : (u : StagedTensor) (k : ℕ) → k < cells_at p rows → defined_cell p rows params inputs u (pos k) ≡ cell_at p rows params inputs u (point box k)
+  pub defined_there : (u : StagedTensor) (k : ℕ) → k < cells_at p rows
+      → defined_cell p rows params inputs u (pos k) ≡ cell_at p rows params inputs u (point box k)
   unfolding defined_cell
   defined_there u k l =
       ap (λ b. if b then cell_at p rows params inputs u (point box k) else pos 0) (lt-ltb k (cells_at p rows) l)
@@ -213,11 +226,13 @@ module _ (p : PlainProgram) (sound : IsSound p) (rows : ℕ) (params : List ℤ)
       (eqb-true r.of n both.0, (Decides-int_eq r.offset d).0 both.1)
 
   -- the port of a read whose cell is there holds the cell
-  port_holds : (i : ℕ) (ports : List ℤ) → PortsHold p rows params inputs v (pos i) ports → (y : ℕ) (d : ℤ) (k : ℕ) → list_any (same_as y d) (tensor_reads p s.tensor) ≡ true → k < cells_at p rows → (pos i +ℤ d) ≡ pos k
+  port_holds : (i : ℕ) (ports : List ℤ) → PortsHold p rows params inputs v (pos i) ports → (y : ℕ) (d : ℤ) (k : ℕ)
+      → list_any (same_as y d) (tensor_reads p s.tensor) ≡ true → k < cells_at p rows → (pos i +ℤ d) ≡ pos k
       → slice_index_or ports (port_of (staged_reads p) v (number_read p ts s.turn y) d) (pos 0) ≡ value y (point box k)
   port_holds i ports hold y d k occurs l is =
       let n = number_read p ts s.turn y in
-      let reads : does_read p s.tensor y ≡ true = any_weaker (same_as y d) (λ (r : Reading). r.of == y) (λ r h. (and_parts (r.of == y) (int_eq r.offset d) h).0) (tensor_reads p s.tensor) occurs in
+      let reads : does_read p s.tensor y ≡ true =
+      any_weaker (same_as y d) (λ (r : Reading). r.of == y) (λ r h. (and_parts (r.of == y) (int_eq r.offset d) h).0) (tensor_reads p s.tensor) occurs in
       let source = source_staged p v s y sound e reads in
       let f : Read → Bool = λ r. r.of == n && int_eq r.offset d in
       let list = reads_by (staged_reads p) v in
@@ -235,7 +250,8 @@ module _ (p : PlainProgram) (sound : IsSound p) (rows : ℕ) (params : List ℤ)
   -- inside the region
   region_parts : (f : Formula) (q : List ℤ) → formula_in p s.tensor ≡ Some f → region s.tensor q ≡ true → every (λ y o. region y (moved q o)) f ≡ true
   region_parts f q d r =
-      (and_parts (in_box box q) (every (λ y o. region y (moved q o)) f) (sym (ap (λ h. in_box box q && by_formula h (g.region s.tensor q) (every (λ y o. region y (moved q o)))) d) ∙ sym ((means g).regions s.tensor q) ∙ r)).1
+      (and_parts (in_box box q) (every (λ y o. region y (moved q o)) f)
+      (sym (ap (λ h. in_box box q && by_formula h (g.region s.tensor q) (every (λ y o. region y (moved q o)))) d) ∙ sym ((means g).regions s.tensor q) ∙ r)).1
 
   region_boxed : (y : ℕ) (q : List ℤ) → region y q ≡ true → in_box box q ≡ true
   region_boxed y q r =
@@ -243,13 +259,18 @@ module _ (p : PlainProgram) (sound : IsSound p) (rows : ℕ) (params : List ℤ)
 
   -- the value of a cell, by its formula
   by_region : (f : Formula) (q : List ℤ) (b : Bool) → formula_in p s.tensor ≡ Some f → region s.tensor q ≡ b
-      → value s.tensor q ≡ (if b then wrapped (type_at stencil s.tensor) (valued stencil.scope (λ y o. value y (moved q o)) params f) else outside_cell stencil g s.tensor q)
+      → value s.tensor q ≡ (if b then wrapped (type_at stencil s.tensor)
+      (valued stencil.scope (λ y o. value y (moved q o)) params f) else outside_cell stencil g s.tensor q)
   by_region f q b d r =
       (means g).cells s.tensor q
-      ∙ ap (λ h. by_formula h (g.cell s.tensor q) (λ k. if region s.tensor q then wrapped (type_at stencil s.tensor) (valued stencil.scope (λ y o. value y (moved q o)) params k) else outside_cell stencil g s.tensor q)) d
-      ∙ ap (λ c. if c then wrapped (type_at stencil s.tensor) (valued stencil.scope (λ y o. value y (moved q o)) params f) else outside_cell stencil g s.tensor q) r
+      ∙ ap (λ h. by_formula h (g.cell s.tensor q)
+      (λ k. if region s.tensor q then wrapped (type_at stencil s.tensor)
+      (valued stencil.scope (λ y o. value y (moved q o)) params k) else outside_cell stencil g s.tensor q)) d
+      ∙ ap (λ c. if c then wrapped (type_at stencil s.tensor)
+      (valued stencil.scope (λ y o. value y (moved q o)) params f) else outside_cell stencil g s.tensor q) r
 
-  module _ (i : ℕ) (there : i < cells_at p rows) (ports : List ℤ) (hold : PortsHold p rows params inputs v (pos i) ports) (f : Formula) (d : formula_in p s.tensor ≡ Some f) where
+  module _ (i : ℕ) (there : i < cells_at p rows) (ports : List ℤ) (hold : PortsHold p rows params inputs v (pos i) ports) (f : Formula)
+      (d : formula_in p s.tensor ≡ Some f) where
     abbrev q : List ℤ
     q = point box i
 
@@ -271,27 +292,32 @@ module _ (p : PlainProgram) (sound : IsSound p) (rows : ℕ) (params : List ℤ)
     all_read =
         let ns = extents_at p 1 in
         every_weaker (is_read_in ns (formula_reads ns f)) (is_read_in ns (tensor_reads p s.tensor)) (λ y o h.
-        ap (λ rs. is_read_in ns (rs ++ border_reads p s.tensor) y o) (ap (λ k. by_formula k [] (formula_reads ns)) d) ∙ in_first ns (formula_reads ns f) (border_reads p s.tensor) y o h) f (own_reads ns f)
+        ap (λ rs. is_read_in ns (rs ++ border_reads p s.tensor) y o) (ap (λ k. by_formula k [] (formula_reads ns)) d)
+        ∙ in_first ns (formula_reads ns f) (border_reads p s.tensor) y o h) f (own_reads ns f)
 
     inner_is : region s.tensor q ≡ true → inner_cell p params v s ports ≡ value s.tensor q
     unfolding inner_cell
     inner_is r =
         ap (λ h. wrapped (type_of p s.tensor) (by_formula h (pos 0) (valued (scope_of p) (held p v s ports) params))) d
         ∙ ap (wrapped (type_of p s.tensor)) (valued_same test (scope_of p) params (held p v s ports) (λ y o. value y (moved q o)) held_same f
-        (every_both (λ y o. is_good_cell p y o && region y (moved q o)) (is_read_in (extents_at p 1) (tensor_reads p s.tensor)) f (every_both (is_good_cell p) (λ y o. region y (moved q o)) f (reads_good p s.tensor f (countable p sound) d) (region_parts f q d r)) all_read))
+        (every_both (λ y o. is_good_cell p y o && region y (moved q o)) (is_read_in (extents_at p 1) (tensor_reads p s.tensor)) f
+        (every_both (is_good_cell p) (λ y o. region y (moved q o)) f (reads_good p s.tensor f (countable p sound) d) (region_parts f q d r)) all_read))
         ∙ sym (by_region f q true d r)
 
     -- outside it
     border_port : (b : Bool) → (preserves p && is_output p s.tensor) ≡ b
-        → (if b then slice_index_or ports (port_of (staged_reads p) v (number_read p ts s.turn (output_number p s.tensor)) (pos 0)) (pos 0) else pos 0) ≡ elim (if b then Some (output_number p s.tensor) else None) [ None ↦ pos 0 | Some j ↦ g.cell j q ]
+        → (if b then slice_index_or ports (port_of (staged_reads p) v (number_read p ts s.turn (output_number p s.tensor)) (pos 0)) (pos 0) else pos 0) ≡ elim
+        (if b then Some (output_number p s.tensor) else None) [ None ↦ pos 0 | Some j ↦ g.cell j q ]
     border_port false h = refl
     border_port true h =
         let j = output_number p s.tensor in
         let turn = own_turn p v s sound e in
         let both = and_parts (preserves p) (is_output p s.tensor) h in
         let ns = extents_at p 1 in
-        let occurs : list_any (same_as j (pos 0)) (tensor_reads p s.tensor) ≡ true = list_any-append (same_as j (pos 0)) (by_formula (formula_in p s.tensor) [] (formula_reads ns)) (border_reads p s.tensor)
-        ∙ or_right (list_any (same_as j (pos 0)) (by_formula (formula_in p s.tensor) [] (formula_reads ns))) (list_any (same_as j (pos 0)) (border_reads p s.tensor)) (border_read (preserves p && is_output p s.tensor) j h) in
+        let occurs : list_any (same_as j (pos 0)) (tensor_reads p s.tensor) ≡ true =
+        list_any-append (same_as j (pos 0)) (by_formula (formula_in p s.tensor) [] (formula_reads ns)) (border_reads p s.tensor)
+        ∙ or_right (list_any (same_as j (pos 0)) (by_formula (formula_in p s.tensor) [] (formula_reads ns)))
+        (list_any (same_as j (pos 0)) (border_reads p s.tensor)) (border_read (preserves p && is_output p s.tensor) j h) in
         let at : (pos i +ℤ pos 0) ≡ pos i = ap pos (let k : i + 0 ≡ i = omega arith in k) in
         port_holds i ports hold j (pos 0) i occurs there at
         ∙ input_cell g j q (border_is_input p sound both.0 s.tensor turn.2 both.1)
@@ -329,12 +355,14 @@ module _ (p : PlainProgram) (sound : IsSound p) (rows : ℕ) (params : List ℤ)
       (λ (h : c ≡ false). ap (λ b. type_of p (if b then staged_tensor p (s.turn - 2) o else staged_tensor p (s.turn - 1) y).tensor) h)
       (true_or_not c)
 
-  held_in_range : (ports : List ℤ) → HasValues (port_types p v) ports → (y : ℕ) (d : ℤ) → y < length p.tensors → list_any (same_as y d) (tensor_reads p s.tensor) ≡ true
+  held_in_range : (ports : List ℤ) → HasValues (port_types p v) ports → (y : ℕ) (d : ℤ) → y < length p.tensors
+      → list_any (same_as y d) (tensor_reads p s.tensor) ≡ true
       → InRange (type_of p y) (slice_index_or ports (port_of (staged_reads p) v (number_read p ts s.turn y) d) (pos 0))
   held_in_range ports have y d l occurs =
       let n = number_read p ts s.turn y in
       let u = source_of p s.turn y in
-      let reads : does_read p s.tensor y ≡ true = any_weaker (same_as y d) (λ (r : Reading). r.of == y) (λ r h. (and_parts (r.of == y) (int_eq r.offset d) h).0) (tensor_reads p s.tensor) occurs in
+      let reads : does_read p s.tensor y ≡ true =
+      any_weaker (same_as y d) (λ (r : Reading). r.of == y) (λ r h. (and_parts (r.of == y) (int_eq r.offset d) h).0) (tensor_reads p s.tensor) occurs in
       let source = source_staged p v s y sound e reads in
       let f : Read → Bool = λ r. r.of == n && int_eq r.offset d in
       let list = reads_by (staged_reads p) v in
@@ -349,15 +377,21 @@ module _ (p : PlainProgram) (sound : IsSound p) (rows : ℕ) (params : List ℤ)
       ∙ get_or-map (λ (w : StagedTensor). type_of p w.tensor) ts n u int32 at.0
       ∙ ap (λ (w : StagedTensor). type_of p w.tensor) at.1
       ∙ type_of_source y l in
-      subst (λ t. InRange t (slice_index_or ports j (pos 0))) type (value_at_place (port_types p v) ports j have (omega (arith, within, length-map list (λ (q : Read). staged_type p q.of))))
+      subst (λ t. InRange t (slice_index_or ports j (pos 0))) type
+      (value_at_place (port_types p v) ports j have (omega (arith, within, length-map list (λ (q : Read). staged_type p q.of))))
 
-  pub formula_in_range : (ports : List ℤ) → HasValues (port_types p v) ports → (f : Formula) → formula_in p s.tensor ≡ Some f → Each (λ y o. InRange (slice_index_or (scope_of p).tensors y int32) (held p v s ports y o)) f
+  pub formula_in_range : (ports : List ℤ) → HasValues (port_types p v) ports → (f : Formula) → formula_in p s.tensor ≡ Some f
+      → Each (λ y o. InRange (slice_index_or (scope_of p).tensors y int32) (held p v s ports y o)) f
   formula_in_range ports have f d =
       let ns = extents_at p 1 in
-      let all : every (is_read_in ns (tensor_reads p s.tensor)) f ≡ true = every_weaker (is_read_in ns (formula_reads ns f)) (is_read_in ns (tensor_reads p s.tensor)) (λ y o h.
-      ap (λ rs. is_read_in ns (rs ++ border_reads p s.tensor) y o) (ap (λ k. by_formula k [] (formula_reads ns)) d) ∙ in_first ns (formula_reads ns f) (border_reads p s.tensor) y o h) f (own_reads ns f) in
-      each_from (λ y o. is_good_cell p y o && is_read_in ns (tensor_reads p s.tensor) y o) (λ y o. InRange (slice_index_or (scope_of p).tensors y int32) (held p v s ports y o))
-      (λ y o h. let both = and_parts (is_good_cell p y o) (is_read_in ns (tensor_reads p s.tensor) y o) h in held_in_range ports have y (linear ns o) (good_there p y o both.0) both.1)
+      let all : every (is_read_in ns (tensor_reads p s.tensor)) f ≡ true =
+      every_weaker (is_read_in ns (formula_reads ns f)) (is_read_in ns (tensor_reads p s.tensor)) (λ y o h.
+      ap (λ rs. is_read_in ns (rs ++ border_reads p s.tensor) y o) (ap (λ k. by_formula k [] (formula_reads ns)) d)
+      ∙ in_first ns (formula_reads ns f) (border_reads p s.tensor) y o h) f (own_reads ns f) in
+      each_from (λ y o. is_good_cell p y o && is_read_in ns (tensor_reads p s.tensor) y o)
+      (λ y o. InRange (slice_index_or (scope_of p).tensors y int32) (held p v s ports y o))
+      (λ y o h. let both = and_parts (is_good_cell p y o) (is_read_in ns (tensor_reads p s.tensor) y o) h in held_in_range ports have y (linear ns o)
+      (good_there p y o both.0) both.1)
       f (every_both (is_good_cell p) (is_read_in ns (tensor_reads p s.tensor)) f (reads_good p s.tensor f (countable p sound) d) all)
 
   -- a staged tensor that is no input has a formula
@@ -366,14 +400,17 @@ module _ (p : PlainProgram) (sound : IsSound p) (rows : ℕ) (params : List ℤ)
       absurd (true≢false (sym (bare_input p.tensors s.tensor sound.parts.formulas (own_turn p v s sound e).2 d) ∙ h))
   formula_there h (Some f) d = (f, d)
 
-  sent_by : (i : ℕ) (ports : List ℤ) → PortsHold p rows params inputs v (pos i) ports → is_input p s.tensor ≡ false → (b : Bool) → nat_lt i (cells_at p rows) ≡ b
-      → (if b then (if keeps_away box s.low s.high (point box i) then inner_cell p params v s ports else outer_cell p v s ports) else pos 0) ≡ (if b then cell_at p rows params inputs s (point box i) else pos 0)
+  sent_by : (i : ℕ) (ports : List ℤ) → PortsHold p rows params inputs v (pos i) ports → is_input p s.tensor ≡ false → (b : Bool)
+      → nat_lt i (cells_at p rows) ≡ b
+      → (if b then (if keeps_away box s.low s.high (point box i) then inner_cell p params v s ports else outer_cell p v s ports) else pos 0) ≡
+      (if b then cell_at p rows params inputs s (point box i) else pos 0)
   sent_by i ports hold local false h = refl
   sent_by i ports hold local true h =
       let f = formula_there local (formula_in p s.tensor) refl in
       sent_inside i (ltb-true i (cells_at p rows) h) ports hold f.0 f.1
 
-  pub sent_is : (z : ℤ) (ports : List ℤ) → PortsHold p rows params inputs v z ports → is_input p s.tensor ≡ false → sent_cell p rows params v s ports z ≡ defined_cell p rows params inputs s z
+  pub sent_is : (z : ℤ) (ports : List ℤ) → PortsHold p rows params inputs v z ports → is_input p s.tensor ≡ false
+      → sent_cell p rows params v s ports z ≡ defined_cell p rows params inputs s z
   unfolding sent_cell defined_cell
   sent_is (pos i) ports hold local = sent_by i ports hold local (nat_lt i (cells_at p rows)) refl
   sent_is (negsuc i) ports hold local = refl

@@ -1,2 +1,4 @@
 pub mod Cells
+pub mod Streams
+pub mod Sends
 pub mod pieces

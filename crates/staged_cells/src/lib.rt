@@ -1,9 +1,15 @@
-//! The regions and cells of staged tensors: what a computing module sends, from what its ports hold.
+//! The regions and cells of staged tensors: what a computing module sends, from what its ports hold; and the streams of
+//! a program's network, which its queues carry.
 #![tactic(auto)]
 
+mod laws;
 mod module;
 mod ports;
 mod region;
 
+pub use laws::{
+    inputs_are_staged_first, items_are_by_module, lists_are_streams, lists_go_as_far, lists_go_on,
+    modules_send_streams, ports_are_of_reads, sinks_take_arrays, stage_cells_are_in_range,
+};
 pub use module::cell_of;
 pub use region::in_region;

@@ -13,7 +13,8 @@ returns-then-has_border c =
     let s = c.args.ports.now in
     let x = c.args.tensor in
     let fits : FitsSigned w128 c.at.result = search rules in
-    let both : (preserves p && is_output p x) ≡ true = ap (λ b. b && is_output p x) (sym c.is_preserved.ensures) ∙ ap (λ b. c.is_preserved.result && b) (sym c.is_output.ensures) ∙ c.if-has_border.true in
+    let both : (preserves p && is_output p x) ≡ true = ap (λ b. b && is_output p x) (sym c.is_preserved.ensures)
+    ∙ ap (λ b. c.is_preserved.result && b) (sym c.is_output.ensures) ∙ c.if-has_border.true in
     let at : ℕ → ℤ = λ y. slice_index_or s.values.now (port_of s.reads.now s.number y (pos 0)) (pos 0) in
     to_z-of_z w128 c.at.result fits
     ∙ c.at.ensures
@@ -25,5 +26,7 @@ returns-else-has_border c =
     let p = plain c.args.parts.now in
     let s = c.args.ports.now in
     let x = c.args.tensor in
-    let none : (preserves p && is_output p x) ≡ false = ap (λ b. b && is_output p x) (sym c.is_preserved.ensures) ∙ ap (λ b. c.is_preserved.result && b) (sym c.is_output.ensures) ∙ c.if-has_border.false in
-    sym (ap (λ b. if b then slice_index_or s.values.now (port_of s.reads.now s.number (number_read p s.tensors.now s.turn (output_number p x)) (pos 0)) (pos 0) else pos 0) none)
+    let none : (preserves p && is_output p x) ≡ false = ap (λ b. b && is_output p x) (sym c.is_preserved.ensures)
+    ∙ ap (λ b. c.is_preserved.result && b) (sym c.is_output.ensures) ∙ c.if-has_border.false in
+    sym (ap (λ b. if b then slice_index_or s.values.now (port_of s.reads.now s.number (number_read p s.tensors.now s.turn (output_number p x)) (pos 0))
+    (pos 0) else pos 0) none)

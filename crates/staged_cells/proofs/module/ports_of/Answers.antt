@@ -14,6 +14,12 @@ invariant_of-result c =
     let valid = c.parts.ensures.valid in
     record {
       few = omega (arith, ap length (c.as_slice.ensures ∙ ap (λ (s : Staged). s.tensors) c.requires), tensors_counted p valid.sound, valid.few_live);
-      within = omega (arith, ap (λ (q : Parts). length q.tensors) c.parts.ensures.value, length-map c.args.program.now.tensors plain_tensor, valid.sound.limits.few_tensors);
+      within = omega (
+        arith,
+        ap
+            (λ (q : Parts). length q.tensors) c.parts.ensures.value,
+        length-map c.args.program.now.tensors plain_tensor,
+        valid.sound.limits.few_tensors,
+      );
       small = omega (arith, ap (λ (q : Parts). reach q.extents) c.parts.ensures.value, reach_of p (countable p valid.sound));
     }

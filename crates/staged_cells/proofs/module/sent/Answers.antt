@@ -28,7 +28,8 @@ formula_value-value-requires-clause-ports c = λ f d.
     let v = c.args.tensor in
     let here = c.index-as_slice-tensor.result in
     let lent : c.as_slice.result.now ≡ staged_tensors p = c.as_slice.ensures ∙ ap (λ (s : Staged). s.tensors) c.requires.staging in
-    let at : slice_get (staged_tensors p) v ≡ Some here = get_at (staged_tensors p) v here c.requires.tensor ∙ ap Some (sym (c.index-as_slice-tensor.is ∙ ap (λ (xs : List StagedTensor). get_or xs v here) lent)) in
+    let at : slice_get (staged_tensors p) v ≡ Some here = get_at (staged_tensors p) v here c.requires.tensor
+    ∙ ap Some (sym (c.index-as_slice-tensor.is ∙ ap (λ (xs : List StagedTensor). get_or xs v here) lent)) in
     let e = c.ports_of-ports.ensures in
     let same = port_value_is c.ports_of-ports.result c.args.program.now v here c.args.values.now e.parts e.tensors e.reads e.number e.turn e.values in
     subst (λ (h : ℕ → List ℤ → ℤ). Each (λ y o. InRange (slice_index_or (scope_of p).tensors y int32) (h y o)) f) (sym same)
@@ -40,7 +41,8 @@ tensor_type-requires c =
     let v = c.args.tensor in
     let here = c.index-as_slice-tensor.result in
     let lent : c.as_slice.result.now ≡ staged_tensors p = c.as_slice.ensures ∙ ap (λ (s : Staged). s.tensors) c.requires.staging in
-    let at : slice_get (staged_tensors p) v ≡ Some here = get_at (staged_tensors p) v here c.requires.tensor ∙ ap Some (sym (c.index-as_slice-tensor.is ∙ ap (λ (xs : List StagedTensor). get_or xs v here) lent)) in
+    let at : slice_get (staged_tensors p) v ≡ Some here = get_at (staged_tensors p) v here c.requires.tensor
+    ∙ ap Some (sym (c.index-as_slice-tensor.is ∙ ap (λ (xs : List StagedTensor). get_or xs v here) lent)) in
     let turn = own_turn p v here c.parts-parts.ensures.valid.sound at in
     omega (arith, turn.2, length-map c.args.program.now.tensors plain_tensor, ap (λ (q : Parts). length q.tensors) c.parts-parts.ensures.value)
 
@@ -51,13 +53,16 @@ returns-then-is_kept c = λ s k.
     let v = c.args.tensor in
     let here = c.index-as_slice-tensor.result in
     let lent : c.as_slice.result.now ≡ staged_tensors p = c.as_slice.ensures ∙ ap (λ (z : Staged). z.tensors) c.requires.staging in
-    let at : slice_get (staged_tensors p) v ≡ Some here = get_at (staged_tensors p) v here c.requires.tensor ∙ ap Some (sym (c.index-as_slice-tensor.is ∙ ap (λ (xs : List StagedTensor). get_or xs v here) lent)) in
+    let at : slice_get (staged_tensors p) v ≡ Some here = get_at (staged_tensors p) v here c.requires.tensor
+    ∙ ap Some (sym (c.index-as_slice-tensor.is ∙ ap (λ (xs : List StagedTensor). get_or xs v here) lent)) in
     let e = c.ports_of-ports.ensures in
     let same = port_value_is c.ports_of-ports.result q v here c.args.values.now e.parts e.tensors e.reads e.number e.turn e.values in
-    let kept = subst (λ (r : Parts). (z : StagedTensor) → slice_get (staged_tensors (plain r)) v ≡ Some z → c.is_kept.result ≡ keeps_away (extents_at (plain r) c.args.rows) z.low z.high (point (extents_at (plain r) c.args.rows) c.args.place)) c.parts-parts.ensures.value c.is_kept.ensures in
+    let kept = subst (λ (r : Parts). (z : StagedTensor) → slice_get (staged_tensors (plain r)) v ≡ Some z → c.is_kept.result ≡ keeps_away
+    (extents_at (plain r) c.args.rows) z.low z.high (point (extents_at (plain r) c.args.rows) c.args.place)) c.parts-parts.ensures.value c.is_kept.ensures in
     let wraps : FitsSigned w128 c.wrap.result = search rules in
     let fits : FitsSigned w128 c.formula_value-value.result = search rules in
-    let type : c.tensor_type.result ≡ type_of p here.tensor = c.tensor_type.ensures ∙ ap (λ (r : Parts). type_of (plain r) here.tensor) c.parts-parts.ensures.value in
+    let type : c.tensor_type.result ≡ type_of p here.tensor = c.tensor_type.ensures
+    ∙ ap (λ (r : Parts). type_of (plain r) here.tensor) c.parts-parts.ensures.value in
     let value = by_formula (formula_in p here.tensor) (pos 0) (valued (scope_of p) (port_value c.ports_of-ports.result) c.args.params.now) in
     to_z-of_z w128 c.wrap.result wraps
     ∙ c.wrap.ensures.value
@@ -74,12 +79,15 @@ returns-else-is_kept c = λ s k.
     let v = c.args.tensor in
     let here = c.index-as_slice-tensor.result in
     let lent : c.as_slice.result.now ≡ staged_tensors p = c.as_slice.ensures ∙ ap (λ (z : Staged). z.tensors) c.requires.staging in
-    let at : slice_get (staged_tensors p) v ≡ Some here = get_at (staged_tensors p) v here c.requires.tensor ∙ ap Some (sym (c.index-as_slice-tensor.is ∙ ap (λ (xs : List StagedTensor). get_or xs v here) lent)) in
+    let at : slice_get (staged_tensors p) v ≡ Some here = get_at (staged_tensors p) v here c.requires.tensor
+    ∙ ap Some (sym (c.index-as_slice-tensor.is ∙ ap (λ (xs : List StagedTensor). get_or xs v here) lent)) in
     let e = c.ports_of-ports.ensures in
-    let kept = subst (λ (r : Parts). (z : StagedTensor) → slice_get (staged_tensors (plain r)) v ≡ Some z → c.is_kept.result ≡ keeps_away (extents_at (plain r) c.args.rows) z.low z.high (point (extents_at (plain r) c.args.rows) c.args.place)) c.parts-parts.ensures.value c.is_kept.ensures in
+    let kept = subst (λ (r : Parts). (z : StagedTensor) → slice_get (staged_tensors (plain r)) v ≡ Some z → c.is_kept.result ≡ keeps_away
+    (extents_at (plain r) c.args.rows) z.low z.high (point (extents_at (plain r) c.args.rows) c.args.place)) c.parts-parts.ensures.value c.is_kept.ensures in
     let fits : FitsSigned w128 c.border_value.result = search rules in
     to_z-of_z w128 c.border_value.result fits
     ∙ c.border_value.ensures
-    ∙ border_is_outer c.ports_of-ports.result c.parts-parts.result.now q v here c.args.values.now c.parts-parts.ensures.value e.tensors e.reads e.number e.turn e.values
+    ∙ border_is_outer c.ports_of-ports.result c.parts-parts.result.now q v here c.args.values.now c.parts-parts.ensures.value e.tensors e.reads e.number e.turn
+    e.values
     ∙ sent_outside p c.args.rows c.args.params.now v here c.args.values.now c.args.place (sym (kept here at) ∙ c.if-is_kept.false)
     ∙ ap (λ (z : StagedTensor). sent_at p c.args.rows c.args.params.now v z c.args.values.now c.args.place) (some_same here s (sym at ∙ k))
