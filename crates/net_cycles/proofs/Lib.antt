@@ -1,0 +1,9 @@
+pub mod BetweenFirings
+pub mod Steps
+pub mod Kept
+pub mod Readiness
+pub mod Visited
+pub mod Runs
+pub mod Start
+pub mod Places
+pub mod Storage
