@@ -9,6 +9,7 @@ use Rattle.share_shape.specs.Compounds.{Site, compounds, compounds_of, site, sit
 use Rattle.share_shape.specs.Procedure.{first_shared, renumbered, replaced, replaced_in}
 pub use Rattle.share_shape.specs.Counts.{hits, one, tensor_hits, total}
 use Rattle.share_shape.specs.Shifts.{are_shift_equal, has_cell, shifted}
+use Rattle.share_shape.proofs.Found.{some_site}
 use Rattle.share_shape.proofs.Moves.{has_shifted}
 use Rattle.share_shape.proofs.Replaced.{IsKept, is_operation, kept}
 use Rattle.share_shape.proofs.Same.{base_one, one_base}
@@ -230,18 +231,15 @@ any_by : (b r : Bool) (n : ℕ) → (b || r) ≡ true → (r ≡ true → 1 ≤ 
 any_by true r n e h = omega arith
 any_by false r n e h = omega (arith, h e)
 
-some_one : {r s : Site} → Some r ≡ Some s → r ≡ s
-some_one e = cc
-
 -- the compound that is found is there twice
-any_one : (c : Formula) (ss : List Site) → list_any (λ (r : Site). are_shift_equal c r.compound) ss ≡ true → 1 ≤ total (λ (r : Site). one (are_shift_equal c r.compound)) ss
+pub any_one : (c : Formula) (ss : List Site) → list_any (λ (r : Site). are_shift_equal c r.compound) ss ≡ true → 1 ≤ total (λ (r : Site). one (are_shift_equal c r.compound)) ss
 any_one c [] e = absurd (false≢true e)
 any_one c (r ∷ rs) e = any_by (are_shift_equal c r.compound) (list_any (λ (r : Site). are_shift_equal c r.compound) rs) (total (λ (r : Site). one (are_shift_equal c r.compound)) rs) e (any_one c rs)
 
 twice_by : (s r : Site) (rs : List Site) (b : Bool) → list_any (λ (q : Site). are_shift_equal r.compound q.compound) rs ≡ b → (if b then Some r else first_shared rs) ≡ Some s
     → (first_shared rs ≡ Some s → 2 ≤ total (λ (q : Site). one (are_shift_equal s.compound q.compound)) rs) → 2 ≤ total (λ (q : Site). one (are_shift_equal s.compound q.compound)) (r ∷ rs)
 twice_by s r rs true e h rest =
-    let same : r ≡ s = some_one h in
+    let same : r ≡ s = some_site h in
     let P : Site → Type 0 = λ x. 2 ≤ total (λ (q : Site). one (are_shift_equal x.compound q.compound)) (r ∷ rs) in
     subst P same (omega (arith, any_one r.compound rs e, ap one (base_one r.compound r.compound refl)))
 twice_by s r rs false e h rest = omega (arith, rest h)

@@ -1,7 +1,7 @@
 -- What sharing gives is a valid program, where it passes no limit.
 use Rattle.std.proofs.Common.{◌≡◌, ℕ, zero, suc, ◌^◌, ◌<◌, Bool, true, false, not, ◌&&◌, ◌||◌, List, [], ◌∷◌, ℤ, Option, Some, None, option_map, map, length, refl, sym, ◌∙◌, ap, if◌then◌else◌}
 use Rattle.std.specs.List.{insert, list_all, list_any}
-use Rattle.std.proofs.lemmas.Bool.{and_from, and_parts, false≢true}
+use Rattle.std.proofs.lemmas.Bool.{and_from, and_parts, false≢true, or_right}
 use Rattle.soda_words.specs.IntType.{IntType}
 use Rattle.soda_words.specs.Limits.{most_brackets, most_tokens}
 use Rattle.soda_ir.specs.declared.program.Role.{Role}
@@ -17,10 +17,6 @@ use Rattle.share_shape.proofs.Fit.{IsFit}
 use Rattle.share_shape.proofs.Found.{IsClosed, formula_on}
 use Rattle.share_shape.proofs.Replaced.{IsKept}
 use Rattle.share_shape.proofs.Sizes.{IsSmall, small_closed}
-
-or_right : (a b : Bool) → b ≡ true → (a || b) ≡ true
-or_right true b e = refl
-or_right false b e = e
 
 or_more : (a b c : Bool) → (b ≡ true → c ≡ true) → (a || b) ≡ true → (a || c) ≡ true
 or_more true b c h e = refl

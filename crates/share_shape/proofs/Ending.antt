@@ -28,7 +28,7 @@ fewer_at p s e =
     let n : 1 ≤ count c = one_compound c at.compound.operation at.compound.cell in
     omega (arith, a, b, l, d, o, product_by (count c) (total (tensor_hits c) p.tensors) n m)
 
-some_program : {p q : PlainProgram} → Some p ≡ Some q → p ≡ q
+pub some_program : {p q : PlainProgram} → Some p ≡ Some q → p ≡ q
 some_program e = cc
 
 fewer_by : (p q : PlainProgram) (o : Option Site) → first_shared (sites p) ≡ o → option_map (shared_at p) o ≡ Some q → length (sites q) < length (sites p)

@@ -2,7 +2,7 @@
 use Rattle.std.proofs.Common.{◌≡◌, ℕ, zero, suc, ◌<◌, Bool, true, false, ◌&&◌, ◌||◌, ◌==◌, List, [], ◌∷◌, ℤ, Some, None, map, slice_index_or, length, refl, sym, ◌∙◌, ap, arith, if◌then◌else◌}
 use Rattle.std.specs.Prelude.{neg_ℤ}
 use Rattle.std.specs.List.{list_any}
-use Rattle.std.proofs.lemmas.Bool.{and_parts, eqb-true, false≢true}
+use Rattle.std.proofs.lemmas.Bool.{and_parts, eqb-true, false≢true, or_parts}
 use Rattle.std.proofs.lemmas.List.{length-map}
 use Rattle.soda_ir.specs.Formula.{Formula, number, read, param, unary, binary, choice, cast, every}
 use Rattle.soda_eval.specs.Points.{moved}
@@ -99,19 +99,15 @@ module _ (d : ℕ) (f g : Formula) (cell : has_cell f ≡ true) (dims : has_dims
         sym (shifted_shifted d (map neg_ℤ o) w lo lg f dims) ∙ ap (shifted w) (one_base f g e) ∙ shifted_shifted d (map neg_ℤ w) w lw lg g gdims ∙ unmoved d w lg g gdims,
       )
 
-neither : (a b : Bool) → (a || b) ≡ false → (a ≡ false) × (b ≡ false)
-neither true b e = absurd (false≢true (sym e))
-neither false b e = (refl, e)
-
 some_none : {s : Site} → Some s ≡ None → ⊥
 some_none e = cc
 
 -- where no first compound is found, no two are shift-equal
 any_at : (c : Formula) (ss : List Site) (j : ℕ) (s : Site) → j < length ss → list_any (λ (r : Site). are_shift_equal c r.compound) ss ≡ false → are_shift_equal c (slice_index_or ss j s).compound ≡ false
 any_at c [] j s h e = absurd (omega arith)
-any_at c (r ∷ rs) zero s h e = (neither (are_shift_equal c r.compound) (list_any (λ (q : Site). are_shift_equal c q.compound) rs) e).0
+any_at c (r ∷ rs) zero s h e = (or_parts (are_shift_equal c r.compound) (list_any (λ (q : Site). are_shift_equal c q.compound) rs) e).0
 any_at c (r ∷ rs) (suc j) s h e =
-    any_at c rs j s (omega arith) (neither (are_shift_equal c r.compound) (list_any (λ (q : Site). are_shift_equal c q.compound) rs) e).1
+    any_at c rs j s (omega arith) (or_parts (are_shift_equal c r.compound) (list_any (λ (q : Site). are_shift_equal c q.compound) rs) e).1
 
 pair_by : (r : Site) (rs : List Site) (i j : ℕ) (s : Site) (b : Bool) → list_any (λ (q : Site). are_shift_equal r.compound q.compound) rs ≡ b → (if b then Some r else first_shared rs) ≡ None → i < j → j < suc (length rs)
     → (first_shared rs ≡ None → (a c : ℕ) → a < c → c < length rs → are_shift_equal (slice_index_or rs a s).compound (slice_index_or rs c s).compound ≡ false) → are_shift_equal (slice_index_or (r ∷ rs) i s).compound (slice_index_or (r ∷ rs) j s).compound ≡ false

@@ -2,7 +2,8 @@
 use Rattle.std.proofs.Common.{◌≡◌, ℕ, zero, suc, ◌-◌, ◌<◌, ◌≤◌, Bool, true, false, not, ◌&&◌, ◌==◌, List, [], ◌∷◌, ℤ, Option, Some, None, option_map, map, slice_index_or, length, max, nat_lt, refl, sym, ◌∙◌, ap, subst, arith, ⊎_elim, length-append, if◌then◌else◌}
 use Rattle.std.specs.Prelude.{neg_ℤ}
 use Rattle.std.specs.List.{insert}
-use Rattle.std.proofs.lemmas.Bool.{and_from, and_parts, cases_lt, eq-eqb, eqb-true, false≢true, le-ltb, lt-ltb, ltb-true}
+use Rattle.std.proofs.lemmas.Bool.{and_from, and_parts, cases_lt, eq-eqb, eqb-true, false≢true, le-ltb, lt-ltb, ltb-true, ne_eqb}
+use Rattle.std.proofs.lemmas.Option.{none-some}
 use Rattle.std.proofs.lemmas.List.{length-map}
 use Rattle.std.proofs.lemmas.List.Edits.{length-insert}
 use Rattle.std.proofs.Math.ListN.{get_or-map}
@@ -14,6 +15,7 @@ use Rattle.soda_ir.specs.declared.program.Border.TheVariants.{Ignore, Preserve}
 use Rattle.soda_eval.specs.Points.{moved}
 use Rattle.soda_eval.specs.Runs.{borders_from, scope_of, stencil_of}
 use Rattle.soda_eval.specs.Values.{typed}
+use Rattle.soda_ir.proofs.CallerLemmas.{every_weaker}
 use Rattle.soda_eval.proofs.CallerLemmas.{every_same}
 use Rattle.share_shape.specs.Compounds.{Site, sites}
 use Rattle.share_shape.specs.Procedure.{first_shared, further, local_for, renumbered, replaced, replaced_in, shared_at}
@@ -47,21 +49,13 @@ formula_there [] x f e = cc
 formula_there (t ∷ ts) zero f e = omega arith
 formula_there (t ∷ ts) (suc x) f e = omega (arith, formula_there ts x f e)
 
-none_some : {f : Formula} → None ≡ Some f → ⊥
-none_some e = cc
-
 some_formula : {f g : Formula} → Some f ≡ Some g → f ≡ g
 some_formula e = cc
 
 -- what is not none
 mapped : (h : Formula → Formula) (o : Option Formula) (f : Formula) → option_map h o ≡ Some f → (g : Formula) × (o ≡ Some g) × (f ≡ h g)
-mapped h None f e = absurd (none_some e)
+mapped h None f e = absurd (none-some f e)
 mapped h (Some g) f e = (g, refl, sym (some_formula e))
-
--- one test in place of another
-pub every_more : (test more : ℕ → List ℤ → Bool) → ((t : ℕ) (o : List ℤ) → test t o ≡ true → more t o ≡ true) → (f : Formula) → every test f ≡ true → every more f ≡ true
-every_more test more h f e =
-    sym (every_same test test more (λ t o z. z ∙ sym (h t o z)) f e) ∙ e
 
 -- the greatest rank of what a formula reads
 module _ (rank : ℕ → ℕ) where
@@ -115,7 +109,7 @@ module _ (rank : ℕ → ℕ) where
   -- a formula with a cell, whose reads are all below, is below too
   pub top_below : (f : Formula) (r : ℕ) → has_cell f ≡ true → every (λ t o. nat_lt (rank t) r) f ≡ true → top f < r
   top_below f zero h e =
-      let none = every_more (λ t o. nat_lt (rank t) 0) (λ t o. false) (λ t o z. absurd (omega (arith, ltb-true (rank t) 0 z))) f e in
+      let none = every_weaker (λ t o. nat_lt (rank t) 0) (λ t o. false) (λ t o z. absurd (omega (arith, ltb-true (rank t) 0 z))) f e in
       absurd (false≢true (sym (ap not none) ∙ h))
   top_below f (suc r) h e = omega (arith, top_under f r e)
 
@@ -128,17 +122,10 @@ before_further k y =
     ⊎_elim (λ (l : y < k). ap (before k) (further_less k y l) ∙ ap (λ b. if b then y else y - 1) (lt-ltb y k l))
     (λ (l : k ≤ y). ap (before k) (further_more k y l) ∙ ap (λ b. if b then suc y else suc y - 1) (le-ltb (suc y) k (omega arith)) ∙ omega arith) (cases_lt y k)
 
-equal_by : (b : Bool) → (b ≡ true → ⊥) → b ≡ false
-equal_by true h = absurd (h refl)
-equal_by false h = refl
-
-unequal : (a b : ℕ) → (a ≡ b → ⊥) → (a == b) ≡ false
-unequal a b h = equal_by (a == b) (λ e. h (eqb-true a b e))
-
 further_other : (k y : ℕ) → (further k y == k) ≡ false
 further_other k y =
-    ⊎_elim (λ (l : y < k). ap (λ z. z == k) (further_less k y l) ∙ unequal y k (λ e. omega arith))
-    (λ (l : k ≤ y). ap (λ z. z == k) (further_more k y l) ∙ unequal (suc y) k (λ e. omega arith)) (cases_lt y k)
+    ⊎_elim (λ (l : y < k). ap (λ z. z == k) (further_less k y l) ∙ ne_eqb y k (λ e. omega arith))
+    (λ (l : k ≤ y). ap (λ z. z == k) (further_more k y l) ∙ ne_eqb (suc y) k (λ e. omega arith)) (cases_lt y k)
 
 further_within : (k y n : ℕ) → y < n → further k y < suc n
 further_within k y n h =
@@ -176,7 +163,7 @@ module _ (p : PlainProgram) (fit : IsFit p) (s : Site) (first : first_shared (si
 
   pub behind_inputs : fit.inputs ≤ k
   behind_inputs =
-      ⊎_elim (λ (l : k < fit.inputs). absurd (none_some (sym (fit.bare k l) ∙ holds_at))) (λ (l : fit.inputs ≤ k). l) (cases_lt k fit.inputs)
+      ⊎_elim (λ (l : k < fit.inputs). absurd (none-some _ (sym (fit.bare k l) ∙ holds_at))) (λ (l : fit.inputs ≤ k). l) (cases_lt k fit.inputs)
 
   abbrev new : List PlainTensor
   new = insert (map (replaced_in k c) p.tensors) k (local_for p s)
@@ -242,7 +229,7 @@ module _ (p : PlainProgram) (fit : IsFit p) (s : Site) (first : first_shared (si
 
   bare_new : (y : ℕ) → formula_on p.tensors y ≡ None → y < n → further k y ≡ y
   bare_new y e h =
-      ⊎_elim (λ (l : y < fit.inputs). further_less k y (omega (arith, behind_inputs))) (λ (l : fit.inputs ≤ y). absurd (none_some (sym e ∙ (fit.full y l h).1))) (cases_lt y fit.inputs)
+      ⊎_elim (λ (l : y < fit.inputs). further_less k y (omega (arith, behind_inputs))) (λ (l : fit.inputs ≤ y). absurd (none-some _ (sym e ∙ (fit.full y l h).1))) (cases_lt y fit.inputs)
 
   past_none : (ts : List PlainTensor) (y : ℕ) → length ts ≤ y → formula_on ts y ≡ None
   past_none [] y h = refl
@@ -272,7 +259,7 @@ module _ (p : PlainProgram) (fit : IsFit p) (s : Site) (first : first_shared (si
   has = at.compound.cell
 
   long_test : (f : Formula) → IsGood f → every (λ t o. length o == d) f ≡ true
-  long_test f good = every_more (is_there n d) (λ t o. length o == d) (λ t o h. (and_parts (nat_lt t n) (length o == d) h).1) f good
+  long_test f good = every_weaker (is_there n d) (λ t o. length o == d) (λ t o h. (and_parts (nat_lt t n) (length o == d) h).1) f good
 
   first_long : (f : Formula) → has_cell f ≡ true → IsGood f → length (first_offset f) ≡ d
   first_long f h good = eqb-true _ _ (first_passes (λ o. length o == d) f h (long_test f good))
@@ -289,7 +276,7 @@ module _ (p : PlainProgram) (fit : IsFit p) (s : Site) (first : first_shared (si
       let long : length v ≡ d = length-map (first_offset c) neg_ℤ ∙ first_long c has at.compound.has in
       every_renumbered k (is_there (suc n) d) (based c)
       ∙ every_shifted v (λ t o. is_there (suc n) d (further k t) o) c
-      ∙ every_more (is_there n d) (λ t o. is_there (suc n) d (further k t) (moved o v)) (λ t o h. there_new t o (moved o v) h (let len : length o ≡ d = eqb-true _ _ (and_parts (nat_lt t n) (length o == d) h).1 in let same : length o ≡ length v = len ∙ sym long in length-moved o v same ∙ sym same)) c at.compound.has
+      ∙ every_weaker (is_there n d) (λ t o. is_there (suc n) d (further k t) (moved o v)) (λ t o h. there_new t o (moved o v) h (let len : length o ≡ d = eqb-true _ _ (and_parts (nat_lt t n) (length o == d) h).1 in let same : length o ≡ length v = len ∙ sym long in length-moved o v same ∙ sym same)) c at.compound.has
 
   abbrev There : Formula → Formula → Type 0
   There f h = IsGood f → every (is_there (suc n) d) h ≡ true
@@ -333,7 +320,7 @@ module _ (p : PlainProgram) (fit : IsFit p) (s : Site) (first : first_shared (si
 
   ranked_below : top fit.rank c < n
   ranked_below =
-      let all = every_more (is_there n d) (λ t o. nat_lt (fit.rank t) n) (λ t o h. lt-ltb _ _ (fit.below t)) c at.compound.has in
+      let all = every_weaker (is_there n d) (λ t o. nat_lt (fit.rank t) n) (λ t o h. lt-ltb _ _ (fit.below t)) c at.compound.has in
       top_below fit.rank c n has all
 
   below_new : (z : ℕ) → new_rank z < suc n
@@ -346,7 +333,7 @@ module _ (p : PlainProgram) (fit : IsFit p) (s : Site) (first : first_shared (si
       let v : List ℤ = map neg_ℤ (first_offset c) in
       every_renumbered k (λ z o. nat_lt (new_rank z) (suc m)) (based c)
       ∙ every_shifted v (λ t o. nat_lt (new_rank (further k t)) (suc m)) c
-      ∙ every_more (λ t o. nat_lt (fit.rank t) (suc m)) (λ t o. nat_lt (new_rank (further k t)) (suc m)) (λ t o h. let l : fit.rank t < suc m = ltb-true _ _ h in lt-ltb _ _ (omega (arith, rank_old t, further_less (suc m) (fit.rank t) l))) c (under_top fit.rank c m (omega arith))
+      ∙ every_weaker (λ t o. nat_lt (fit.rank t) (suc m)) (λ t o. nat_lt (new_rank (further k t)) (suc m)) (λ t o h. let l : fit.rank t < suc m = ltb-true _ _ h in lt-ltb _ _ (omega (arith, rank_old t, further_less (suc m) (fit.rank t) l))) c (under_top fit.rank c m (omega arith))
 
   abbrev Ranked : ℕ → Formula → Formula → Type 0
   Ranked r f h = every (λ t o. nat_lt (fit.rank t) r) f ≡ true → every (λ z o. nat_lt (new_rank z) (further (suc m) r)) h ≡ true

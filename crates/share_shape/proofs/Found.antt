@@ -106,7 +106,7 @@ module _ (Q : Formula → Type 0) (closed : IsClosed Q) where
   sites_have k (t ∷ ts) h =
       every_append (IsSite Q k (t ∷ ts)) (map (site k) (compounds_of t)) (sites_from (suc k) ts) (first_of_tensors k t ts t.formula refl (λ f e. h 0 f e)) (further_on k t ts (sites_from (suc k) ts) (sites_have (suc k) ts (λ i f e. h (suc i) f e)))
 
-some_site : {r s : Site} → Some r ≡ Some s → r ≡ s
+pub some_site : {r s : Site} → Some r ≡ Some s → r ≡ s
 some_site e = cc
 
 found_by : (P : Site → Type 0) (s r : Site) (rs : List Site) (b : Bool) → P r → (first_shared rs ≡ Some s → P s) → (if b then Some r else first_shared rs) ≡ Some s → P s

@@ -7,9 +7,10 @@ use Rattle.soda_ir.specs.Valid.{IsSound}
 use Rattle.share_shape.specs.Compounds.{Site, sites}
 use Rattle.share_shape.specs.Procedure.{first_shared, next_shared, shared, shared_at}
 use Rattle.share_shape.specs.Shifts.{IsShiftEqual}
+use Rattle.soda_ir.proofs.CallerLemmas.{every_weaker}
 use Rattle.share_shape.proofs.Ending.{ends}
 use Rattle.share_shape.proofs.Exact.{has_dims, no_pair, passes}
-use Rattle.share_shape.proofs.Fit.{IsFit, dims_of, every_more}
+use Rattle.share_shape.proofs.Fit.{IsFit, dims_of}
 use Rattle.share_shape.proofs.Found.{Every, IsSite, every_closed, sites_have}
 use Rattle.share_shape.proofs.Sides.{is_there}
 use Rattle.share_shape.proofs.Sound.{shared_like}
@@ -34,7 +35,7 @@ apart q fit e s i j h l equal =
     let all = sites_have Q (every_closed (is_there n d)) 0 q.tensors (λ y f k. fit.reads y f k) in
     let at : IsSite Q 0 q.tensors (slice_index_or (sites q) i s) = every_at (IsSite Q 0 q.tensors) (sites q) all i s (omega arith) in
     let f : Formula = (slice_index_or (sites q) i s).compound in
-    let dims : has_dims d f ≡ true = every_more (is_there n d) (λ t o. length o == d) (λ t o k. (and_parts (nat_lt t n) (length o == d) k).1) f at.compound.has in
+    let dims : has_dims d f ≡ true = every_weaker (is_there n d) (λ t o. length o == d) (λ t o k. (and_parts (nat_lt t n) (length o == d) k).1) f at.compound.has in
     false≢true (sym (no_pair (sites q) (none_left q e) s i j h l) ∙ passes d f (slice_index_or (sites q) j s).compound at.compound.cell dims equal)
 
 pub nothing_left : (p : PlainProgram) (s : Site) (i j : ℕ) → IsSound p → i < j → j < length (sites (shared p)) → IsShiftEqual (suc (length (shared p).extents)) (slice_index_or (sites (shared p)) i s).compound (slice_index_or (sites (shared p)) j s).compound → ⊥

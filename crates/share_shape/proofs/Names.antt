@@ -2,7 +2,7 @@
 use Rattle.std.proofs.Common.{◌≡◌, ℕ, zero, suc, ◌+◌, ◌%◌, ◌^◌, ◌<◌, ◌≤◌, Bool, true, false, not, ◌&&◌, ◌||◌, List, [], ◌∷◌, length, refl, sym, ◌∙◌, ap, arith, ⊎_elim, if◌then◌else◌}
 use Rattle.std.specs.Fmt.{decimal}
 use Rattle.std.specs.List.{insert, list_all, list_any}
-use Rattle.std.proofs.lemmas.Bool.{and_from, and_parts, cases_lt, false≢true, lt-ltb}
+use Rattle.std.proofs.lemmas.Bool.{and_from, and_parts, cases_lt, false_from_ne_true, false≢true, lt-ltb, not-true, or_parts}
 use Rattle.std.proofs.lemmas.Fmt.{decimal_by_steps, decimal_injective, length-decimal-le}
 use Rattle.std.proofs.lemmas.List.Folds.{list_all-append}
 use Rattle.std.proofs.lemmas.Nat.{mod_below}
@@ -45,18 +45,6 @@ drop_front xs ys e = cc
 share_one : (m n : ℕ) → m < 2 ^ 64 → n < 2 ^ 64 → share_name m ≡ share_name n → m ≡ n
 share_one m n h l e = decimal_injective m n h l (drop_front (decimal m) (decimal n) e)
 
-only : (b : Bool) → (b ≡ true → ⊥) → b ≡ false
-only true h = absurd (h refl)
-only false h = refl
-
-none_of : (a b : Bool) → (a || b) ≡ false → (a ≡ false) × (b ≡ false)
-none_of true b e = absurd (false≢true (sym e))
-none_of false b e = (refl, e)
-
-not_none : (b : Bool) → not b ≡ true → b ≡ false
-not_none true e = absurd (false≢true e)
-not_none false e = refl
-
 -- a test that one number passes at most
 none_below : (test : ℕ → Bool) (n : ℕ) → ((i : ℕ) → i < n → test i ≡ false) → count_below test n ≡ 0
 none_below test zero h = refl
@@ -64,7 +52,7 @@ none_below test (suc n) h = omega (arith, none_below test n (λ i l. h i (omega 
 
 one_by : (test : ℕ → Bool) (n : ℕ) (b : Bool) → test n ≡ b → ((i j : ℕ) → i < suc n → j < suc n → test i ≡ true → test j ≡ true → i ≡ j) → count_below test n ≤ 1 → count_below test n + (if b then 1 else 0) ≤ 1
 one_by test n true e h l =
-    let none = none_below test n (λ i m. only (test i) (λ t. let same : i ≡ n = h i n (omega arith) (omega arith) t e in omega arith)) in omega (arith, none)
+    let none = none_below test n (λ i m. false_from_ne_true (test i) (λ t. let same : i ≡ n = h i n (omega arith) (omega arith) t e in omega arith)) in omega (arith, none)
 one_by test n false e h l = omega arith
 
 one_at_most : (test : ℕ → Bool) (n : ℕ) → ((i j : ℕ) → i < n → j < n → test i ≡ true → test j ≡ true → i ≡ j) → count_below test n ≤ 1
@@ -102,13 +90,9 @@ all_used : (used : ℕ → Bool) (k n : ℕ) → used (first_unused used k n) �
 all_used used k zero h i l m = let s : i ≡ k = omega arith in ap used s ∙ h
 all_used used k (suc n) h i l m = last_by used k n (used k) refl h (all_used used (suc k) n) i l m
 
-false_by : (b : Bool) → (b ≡ true → ⊥) → b ≡ false
-false_by true h = absurd (h refl)
-false_by false h = refl
-
 pub unused : (ws : List (List ℕ)) → length ws < 2 ^ 64 → is_used ws (first_unused (is_used ws) 0 (length ws)) ≡ false
 unused ws h =
-    false_by (is_used ws (first_unused (is_used ws) 0 (length ws))) (λ e.
+    false_from_ne_true (is_used ws (first_unused (is_used ws) 0 (length ws))) (λ e.
     let all = all_used (is_used ws) 0 (length ws) e in
     let n = suc (length ws) in
     omega (arith, few_used ws n (omega arith), all_counted (is_used ws) n (λ i l. all i (omega arith) (omega arith))))
@@ -140,7 +124,7 @@ any_insert test [] zero w h e = ap (λ b. b || false) h
 any_insert test [] (suc i) w h e = ap (λ b. b || false) h
 any_insert test (v ∷ vs) zero w h e = ap (λ b. b || list_any test (v ∷ vs)) h ∙ e
 any_insert test (v ∷ vs) (suc i) w h e =
-    let parts = none_of (test v) (list_any test vs) e in
+    let parts = or_parts (test v) (list_any test vs) e in
     ap (λ b. b || list_any test (insert vs i w)) parts.0 ∙ any_insert test vs i w h parts.1
 
 pub free_insert : (ws : List (List ℕ)) (i : ℕ) (w : List ℕ) → are_free_names ws ≡ true → is_free_name w ≡ true → list_any (is_word w) ws ≡ false → are_free_names (insert ws i w) ≡ true
@@ -150,5 +134,5 @@ free_insert (v ∷ vs) zero w e f h = and_from _ _ (and_from _ _ f (ap not h)) e
 free_insert (v ∷ vs) (suc i) w e f h =
     let parts = and_parts (is_free_name v && not (list_any (is_word v) vs)) (are_free_names vs) e in
     let front = and_parts (is_free_name v) (not (list_any (is_word v) vs)) parts.0 in
-    let one = none_of (is_word w v) (list_any (is_word w) vs) h in
-    and_from _ _ (and_from _ _ front.0 (ap not (any_insert (is_word v) vs i w (is_word-turned v w ∙ one.0) (not_none (list_any (is_word v) vs) front.1)))) (free_insert vs i w parts.1 f one.1)
+    let one = or_parts (is_word w v) (list_any (is_word w) vs) h in
+    and_from _ _ (and_from _ _ front.0 (ap not (any_insert (is_word v) vs i w (is_word-turned v w ∙ one.0) (not-true (list_any (is_word v) vs) front.1)))) (free_insert vs i w parts.1 f one.1)

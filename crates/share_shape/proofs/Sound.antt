@@ -1,20 +1,20 @@
 -- A sound program is fit for sharing, and what sharing it gives has the same runs and arrays.
 use Rattle.std.proofs.Common.{◌≡◌, ℕ, zero, suc, ◌<◌, ◌≤◌, Bool, true, false, not, ◌&&◌, ◌||◌, ◌==◌, List, [], ◌∷◌, ℤ, Option, Some, None, option_map, length, nat_lt, refl, sym, ◌∙◌, ap, subst, arith, if◌then◌else◌}
 use Rattle.std.specs.List.{list_all, list_any}
-use Rattle.std.proofs.lemmas.Bool.{and_from, and_parts, false≢true}
+use Rattle.std.proofs.lemmas.Bool.{and_from, and_parts, false≢true, not-true}
 use Rattle.soda_ir.specs.Counts.{is_input_role}
 use Rattle.soda_ir.specs.Formula.{Formula, number, read, param, unary, binary, choice, cast, every}
 use Rattle.soda_ir.specs.Program.{PlainProgram, PlainTensor}
 use Rattle.soda_ir.specs.Uses.{each_use, is_good_cell, is_good_place, is_near}
 use Rattle.soda_ir.specs.Valid.{IsSound, has_formula_if_no_input, has_inputs_first}
 use Rattle.soda_eval.specs.Runs.{defined_arrays, run_of}
-use Rattle.soda_ir.proofs.CallerLemmas.{formula_good}
+use Rattle.soda_ir.proofs.CallerLemmas.{every_weaker, formula_good}
 use Rattle.soda_eval.proofs.CallerLemmas.{rank, ranks, ranks_below}
 use Rattle.share_shape.specs.Compounds.{Site, sites}
 use Rattle.share_shape.specs.Procedure.{first_shared, next_shared, shared, shared_at}
 use Rattle.share_shape.proofs.Arrays.{arrays_same, run_same}
-use Rattle.share_shape.proofs.Ending.{kept_in}
-use Rattle.share_shape.proofs.Fit.{IsFit, dims_of, every_more, still_fit}
+use Rattle.share_shape.proofs.Ending.{kept_in, some_program}
+use Rattle.share_shape.proofs.Fit.{IsFit, dims_of, still_fit}
 use Rattle.share_shape.proofs.Found.{formula_on}
 use Rattle.share_shape.proofs.Sides.{is_there}
 
@@ -35,14 +35,10 @@ some_formula (Some f) b e h = (f, refl)
 abbrev no_inputs : List PlainTensor → Bool
 no_inputs ts = list_all (λ t. not (is_input_role t.role)) ts
 
-not_true : (b : Bool) → not b ≡ true → b ≡ false
-not_true true e = absurd (false≢true e)
-not_true false e = refl
-
 all_full : (ts : List PlainTensor) → no_inputs ts ≡ true → list_all has_formula_if_no_input ts ≡ true → (y : ℕ) → y < length ts → (f : Formula) × (formula_on ts y ≡ Some f)
 all_full [] e h y l = absurd (omega arith)
 all_full (t ∷ ts) e h zero l =
-    some_formula t.formula (is_input_role t.role) (and_parts (has_formula_if_no_input t) (list_all has_formula_if_no_input ts) h).0 (not_true _ (and_parts (not (is_input_role t.role)) (no_inputs ts) e).0)
+    some_formula t.formula (is_input_role t.role) (and_parts (has_formula_if_no_input t) (list_all has_formula_if_no_input ts) h).0 (not-true _ (and_parts (not (is_input_role t.role)) (no_inputs ts) e).0)
 all_full (t ∷ ts) e h (suc y) l =
     all_full ts (and_parts (not (is_input_role t.role)) (no_inputs ts) e).1 (and_parts (has_formula_if_no_input t) (list_all has_formula_if_no_input ts) h).1 y (omega arith)
 
@@ -76,7 +72,7 @@ none_any : (ts : List PlainTensor) → no_inputs ts ≡ true → list_any (λ t.
 none_any [] e = refl
 none_any (t ∷ ts) e =
     let parts = and_parts (not (is_input_role t.role)) (no_inputs ts) e in
-    ap (λ b. b || list_any (λ u. is_input_role u.role) ts) (not_true (is_input_role t.role) parts.0) ∙ none_any ts parts.1
+    ap (λ b. b || list_any (λ u. is_input_role u.role) ts) (not-true (is_input_role t.role) parts.0) ∙ none_any ts parts.1
 
 leads_by : (b : Bool) (ts : List PlainTensor) → (if b then has_inputs_first ts else no_inputs ts) ≡ true → (b || list_any (λ t. is_input_role t.role) ts) ≡ true → 0 < (if b then suc (leading ts) else 0)
 leads_by true ts e h = omega arith
@@ -110,7 +106,7 @@ fit_of p sound = record {
   reads = λ y f e.
       let uses = formula_good (each_use (is_good_cell p) (is_good_place p)) p.tensors y f sound.parts.uses e in
       let good = cells_of (is_good_cell p) (is_good_place p) f uses in
-      every_more (is_good_cell p) (is_there (length p.tensors) (dims_of p)) (λ t o h. (and_parts (nat_lt t (length p.tensors) && length o == dims_of p) (is_near o) h).0) f good;
+      every_weaker (is_good_cell p) (is_there (length p.tensors) (dims_of p)) (λ t o h. (and_parts (nat_lt t (length p.tensors) && length o == dims_of p) (is_near o) h).0) f good;
   rank = rank p;
   below = ranks_below p sound;
   ranked = λ y f e. ranks p sound 0 y f e;
@@ -122,9 +118,6 @@ pub record IsLike (p q : PlainProgram) : Type 0 where
   pub runs : (rows : ℕ) (params : List ℤ) (inputs : List (List ℤ)) (t : ℕ) → run_of q rows params inputs t ≡ run_of p rows params inputs t
   pub arrays : (rows : ℕ) (params : List ℤ) (inputs : List (List ℤ)) → defined_arrays q rows params inputs ≡ defined_arrays p rows params inputs
 
-some_program : {p q : PlainProgram} → Some p ≡ Some q → p ≡ q
-some_program e = cc
-
 pub step_at : (p q : PlainProgram) (o : Option Site) → first_shared (sites p) ≡ o → option_map (shared_at p) o ≡ Some q → (s : Site) × (first_shared (sites p) ≡ Some s) × (shared_at p s ≡ q)
 step_at p q None e h = cc
 step_at p q (Some s) e h = (s, e, some_program h)
@@ -132,6 +125,10 @@ step_at p q (Some s) e h = (s, e, some_program h)
 pub step_of : (p q : PlainProgram) → next_shared p ≡ Some q → (s : Site) × (first_shared (sites p) ≡ Some s) × (shared_at p s ≡ q)
 unfolding next_shared
 step_of p q h = step_at p q (first_shared (sites p)) refl h
+
+-- a step keeps a program fit
+pub fit_next : (q r : PlainProgram) → next_shared q ≡ Some r → IsFit q → IsFit r
+fit_next q r h fit = let at = step_of q r h in subst IsFit at.2 (still_fit q fit at.0 at.1)
 
 like_next : (p q r : PlainProgram) → next_shared q ≡ Some r → IsLike p q → IsLike p r
 like_next p q r h l =

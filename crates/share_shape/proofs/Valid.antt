@@ -20,8 +20,7 @@ use Rattle.soda_ir.specs.Program.{PlainParam, PlainProgram, PlainTensor}
 use Rattle.soda_ir.specs.Uses.{each_use, is_good_cell, is_good_place, is_near}
 use Rattle.soda_ir.specs.Valid.{IsSound, IsValid, are_free_names, fills_burst, has_formula_if_no_input, is_good_param, names_of, value_count}
 use Rattle.soda_ir.specs.Written.{most_open, token_count}
-use Rattle.soda_ir.proofs.CallerLemmas.{formula_good, ready_placed}
-use Rattle.soda_eval.proofs.CallerLemmas.{every_same}
+use Rattle.soda_ir.proofs.CallerLemmas.{every_both, every_weaker, formula_good, ready_placed}
 use Rattle.share_shape.specs.Compounds.{Site, sites}
 use Rattle.share_shape.specs.Limits.{Passed, all_magnitudes, first_past, limit_passed, magnitudes, passed_by, past}
 use Rattle.share_shape.specs.Procedure.{first_shared, local_for, next_shared, renumbered, replaced, replaced_in, share_name, share_number, shared, shared_at}
@@ -29,7 +28,7 @@ use Rattle.share_shape.specs.Shifts.{based, first_offset}
 use Rattle.share_shape.proofs.Decent.{IsDecent, IsFine, all_insert, all_map, any_insert, any_map, fine_closed, first_inserted, formulas_pass, formulas_still, inputs_inserted, has_places, outputs_inserted, places_kept, places_local}
 use Rattle.share_shape.proofs.Ending.{kept_in}
 use Rattle.share_shape.proofs.Exact.{first_long, has_dims}
-use Rattle.share_shape.proofs.Fit.{IsFit, dims_of, every_more, old_or_local, still_fit}
+use Rattle.share_shape.proofs.Fit.{IsFit, dims_of, old_or_local, still_fit}
 use Rattle.share_shape.proofs.Found.{IsSite, every_closed, formula_on, found, sites_have}
 use Rattle.share_shape.proofs.Inserted.{map_insert, map_map}
 use Rattle.share_shape.proofs.Names.{free_insert, share_free, unused, unused_within}
@@ -76,7 +75,7 @@ module _ (p q : PlainProgram) (d : IsDecent p q) (s : Site) (first : first_share
   fine_at = found (IsSite (IsFine p) 0 q.tensors) s (sites q) (sites_have (IsFine p) (fine_closed p) 0 q.tensors (λ i f e. d.fine i f e)) first
 
   dims_good : (f : Formula) → IsGood f → has_dims dims f ≡ true
-  dims_good f good = every_more (is_there (length q.tensors) dims) (λ t o. length o == dims) (λ t o h. (and_parts (nat_lt t (length q.tensors)) (length o == dims) h).1) f good
+  dims_good f good = every_weaker (is_there (length q.tensors) dims) (λ t o. length o == dims) (λ t o h. (and_parts (nat_lt t (length q.tensors)) (length o == dims) h).1) f good
 
   local_fine : IsFine p (renumbered k (based c))
   local_fine =
@@ -169,10 +168,6 @@ both_uses cells values (choice c a b) e h =
     and_from _ _ (and_from _ _ (both_uses cells values c u.0 v.0) (both_uses cells values a u.1 v.1)) (both_uses cells values b x.1 y.1)
 both_uses cells values (cast t a) e h = both_uses cells values a e h
 
-pub both_every : (a b : ℕ → List ℤ → Bool) (f : Formula) → every a f ≡ true → every b f ≡ true → every (λ t o. a t o && b t o) f ≡ true
-both_every a b f e h =
-    sym (every_same a b (λ t o. a t o && b t o) (λ t o z. sym (ap (λ x. x && b t o) z)) f e) ∙ h
-
 small_parts : (p : PlainProgram) (f : Formula) → (nat_le (token_count p f) most_tokens && nat_le (most_open p f) most_brackets) ≡ true → IsSmall p most_tokens most_brackets f
 small_parts p f e =
     let parts = and_parts (nat_le (token_count p f) most_tokens) (nat_le (most_open p f) most_brackets) e in
@@ -229,8 +224,8 @@ module _ (q : PlainProgram) (fit : IsFit q) where
   placed_under (suc r) x h l =
       ready_placed q (can_be_placed q) (λ y e. e) x (tensor_by (λ t. by_formula t.formula true (every (λ y o. can_be_placed q y))) q.tensors x l (λ t e. by_known t.formula (every (λ y o. can_be_placed q y)) (λ f g.
       let known : formula_on q.tensors x ≡ Some f = formula_got q.tensors x t e ∙ g in
-      let both = both_every (is_there (length q.tensors) (dims_of q)) (λ y o. nat_lt (fit.rank y) (fit.rank x)) f (fit.reads x f known) (fit.ranked x f known) in
-      every_more (λ y o. is_there (length q.tensors) (dims_of q) y o && nat_lt (fit.rank y) (fit.rank x)) (λ y o. can_be_placed q y) (λ y o z.
+      let both = every_both (is_there (length q.tensors) (dims_of q)) (λ y o. nat_lt (fit.rank y) (fit.rank x)) f (fit.reads x f known) (fit.ranked x f known) in
+      every_weaker (λ y o. is_there (length q.tensors) (dims_of q) y o && nat_lt (fit.rank y) (fit.rank x)) (λ y o. can_be_placed q y) (λ y o z.
       let parts = and_parts (is_there (length q.tensors) (dims_of q) y o) (nat_lt (fit.rank y) (fit.rank x)) z in
       let there = and_parts (nat_lt y (length q.tensors)) (length o == dims_of q) parts.0 in
       let low : fit.rank y < fit.rank x = ltb-true _ _ parts.1 in
@@ -312,7 +307,7 @@ module _ (p : PlainProgram) (sound : IsSound p) (d : IsDecent p (shared p)) (nea
 
   uses_at : (y : ℕ) (f : Formula) → formula_on r.tensors y ≡ Some f → each_use (is_good_cell r) (is_good_place r) f ≡ true
   uses_at y f e =
-      let cells : every (is_good_cell r) f ≡ true = both_every (is_there (length r.tensors) (dims_of r)) (λ t o. is_near o) f (d.fit.reads y f e) (near_in r.tensors (none_past most_offset (all_magnitudes r.tensors) near) y f e) in
+      let cells : every (is_good_cell r) f ≡ true = every_both (is_there (length r.tensors) (dims_of r)) (λ t o. is_near o) f (d.fit.reads y f e) (near_in r.tensors (none_past most_offset (all_magnitudes r.tensors) near) y f e) in
       let places : has_places r f ≡ true = ap (λ (ps : List PlainParam). each_use (λ t o. true) (λ k i. elim (slice_get ps k) [ None ↦ false | Some q ↦ nat_lt i (size q.sizes) ]) f) d.params ∙ (d.fine y f e).places in
       both_uses (is_good_cell r) (is_good_place r) f cells places
 
@@ -359,6 +354,11 @@ module _ (p : PlainProgram) (sound : IsSound p) (d : IsDecent p (shared p)) (nea
     };
     placed = all_placed r d.fit;
   }
+
+-- what sharing a sound program gives is sound, where no offset and no number of tensors passes its limit
+pub shared_sound : (p : PlainProgram) → IsSound p → first_past most_offset (all_magnitudes (shared p).tensors) ≡ None → length (shared p).tensors ≤ most_tensors
+    → IsSound (shared p)
+shared_sound p sound near few = result_sound p sound (shared_decent p sound) near few
 
 or_none : (o : Option Passed) → o ≡ None → or_else o None ≡ None
 or_none None e = refl

@@ -1,0 +1,166 @@
+ghost use Rattle.std.specs.Prelude.{◌≡◌, map, neg_ℤ, false, true, IfOk, MatchOption};
+ghost use Rattle.soda_ir.specs.Formula.{read};
+ghost use Rattle.soda_ir.specs.Tree.{formula_of};
+ghost use Rattle.share_shape.specs.Procedure.{further, renumbered, replaced};
+ghost use Rattle.share_shape.specs.Shifts.{are_shift_equal, first_offset, has_cell, shifted};
+
+use crate::NoMemory;
+use crate::cells::{difference, first_cell};
+use crate::copies::copy_offset;
+use crate::equal::{are_shift_equal, is_same_root};
+use soda_ir::{Expr, Offset};
+use sqlite_items::Boxed;
+use std::alloc::Global;
+
+// The number of a tensor once another stands at a number. Want of memory comes where there are too many tensors to be
+// numbered.
+fn further(at: u32, tensor: u32) -> Result<u32, NoMemory>
+    ensures { IfOk result (λ t. t ≡ further at tensor) }
+{
+    if tensor < at {
+        return Ok(tensor);
+    }
+    match tensor.checked_add(1) {
+        Some(next) => Ok(next),
+        None => Err(NoMemory),
+    }
+}
+
+/// The formula of a local at a number: that of a compound, with the offset of its first cell subtracted.
+#[tactic(auto, using(soda_ir::proofs::CallerLemmas::levels))]
+pub(crate) fn local_formula(
+    alloc: Global,
+    at: u32,
+    first: &Offset,
+    expr: &Expr,
+) -> Result<Expr, NoMemory>
+    ensures { IfOk result (λ e. formula_of e
+        ≡ renumbered at (shifted (map neg_ℤ first.now.items) (formula_of expr.now))) }
+{
+    match expr {
+        Expr::Num(n) => Ok(Expr::Num(*n)),
+        Expr::Cell { tensor, offset } => {
+            let tensor = further(at, *tensor)?;
+            let offset = difference(offset.as_slice(), first.as_slice())?;
+            Ok(Expr::Cell { tensor, offset })
+        }
+        Expr::Par { param, place } => Ok(Expr::Par {
+            param: *param,
+            place: *place,
+        }),
+        Expr::Un(op, a) => {
+            let a = local_formula(alloc, at, first, a.get())?;
+            Ok(Expr::Un(*op, Boxed::new(alloc, a)?))
+        }
+        Expr::Bin(op, a, b) => {
+            let a = local_formula(alloc, at, first, a.get())?;
+            let a = Boxed::new(alloc, a)?;
+            let b = local_formula(alloc, at, first, b.get())?;
+            let b = Boxed::new(alloc, b)?;
+            Ok(Expr::Bin(*op, a, b))
+        }
+        Expr::Select(c, a, b) => {
+            let c = local_formula(alloc, at, first, c.get())?;
+            let c = Boxed::new(alloc, c)?;
+            let a = local_formula(alloc, at, first, a.get())?;
+            let a = Boxed::new(alloc, a)?;
+            let b = local_formula(alloc, at, first, b.get())?;
+            let b = Boxed::new(alloc, b)?;
+            Ok(Expr::Select(c, a, b))
+        }
+        Expr::Cast(ty, a) => {
+            let a = local_formula(alloc, at, first, a.get())?;
+            Ok(Expr::Cast(*ty, Boxed::new(alloc, a)?))
+        }
+    }
+}
+
+// The cell of the local at a number that stands for a formula, where it is shift-equal to the local's compound.
+#[tactic(auto, using(soda_ir::proofs::CallerLemmas::levels, share_shape::proofs::CallerLemmas::no_hit))]
+fn cell_for(at: u32, compound: &Expr, expr: &Expr) -> Option<Expr>
+    requires { has_cell (formula_of compound.now) ≡ true }
+    ensures { MatchOption result (are_shift_equal (formula_of compound.now) (formula_of expr.now) ≡ false)
+        (λ e. (are_shift_equal (formula_of compound.now) (formula_of expr.now) ≡ true)
+        × (formula_of e ≡ read at (first_offset (formula_of expr.now)))) }
+{
+    if !is_same_root(compound, expr) {
+        return None;
+    }
+    match first_cell(expr) {
+        Some(first) => {
+            if are_shift_equal(compound, expr) {
+                Some(Expr::Cell {
+                    tensor: at,
+                    offset: copy_offset(first.as_slice()),
+                })
+            } else {
+                None
+            }
+        }
+        None => None,
+    }
+}
+
+/// The formula over the tensors with a local at a number, where each compound that is shift-equal to the local's is
+/// read from it.
+#[tactic(auto, using(soda_ir::proofs::CallerLemmas::levels))]
+pub(crate) fn replaced(
+    alloc: Global,
+    at: u32,
+    compound: &Expr,
+    expr: &Expr,
+) -> Result<Expr, NoMemory>
+    requires { has_cell (formula_of compound.now) ≡ true }
+    ensures { IfOk result (λ e. formula_of e ≡ replaced at (formula_of compound.now) (formula_of expr.now)) }
+{
+    match expr {
+        Expr::Num(n) => Ok(Expr::Num(*n)),
+        Expr::Cell { tensor, offset } => {
+            let tensor = further(at, *tensor)?;
+            Ok(Expr::Cell {
+                tensor,
+                offset: copy_offset(offset.as_slice()),
+            })
+        }
+        Expr::Par { param, place } => Ok(Expr::Par {
+            param: *param,
+            place: *place,
+        }),
+        Expr::Un(op, a) => match cell_for(at, compound, expr) {
+            Some(cell) => Ok(cell),
+            None => {
+                let a = replaced(alloc, at, compound, a.get())?;
+                Ok(Expr::Un(*op, Boxed::new(alloc, a)?))
+            }
+        },
+        Expr::Bin(op, a, b) => match cell_for(at, compound, expr) {
+            Some(cell) => Ok(cell),
+            None => {
+                let a = replaced(alloc, at, compound, a.get())?;
+                let a = Boxed::new(alloc, a)?;
+                let b = replaced(alloc, at, compound, b.get())?;
+                let b = Boxed::new(alloc, b)?;
+                Ok(Expr::Bin(*op, a, b))
+            }
+        },
+        Expr::Select(c, a, b) => match cell_for(at, compound, expr) {
+            Some(cell) => Ok(cell),
+            None => {
+                let c = replaced(alloc, at, compound, c.get())?;
+                let c = Boxed::new(alloc, c)?;
+                let a = replaced(alloc, at, compound, a.get())?;
+                let a = Boxed::new(alloc, a)?;
+                let b = replaced(alloc, at, compound, b.get())?;
+                let b = Boxed::new(alloc, b)?;
+                Ok(Expr::Select(c, a, b))
+            }
+        },
+        Expr::Cast(ty, a) => match cell_for(at, compound, expr) {
+            Some(cell) => Ok(cell),
+            None => {
+                let a = replaced(alloc, at, compound, a.get())?;
+                Ok(Expr::Cast(*ty, Boxed::new(alloc, a)?))
+            }
+        },
+    }
+}
