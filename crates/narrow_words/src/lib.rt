@@ -2,6 +2,7 @@
 #![tactic(auto)]
 
 mod cell;
+mod fused;
 mod kernel;
 mod norm;
 mod operands;
@@ -9,6 +10,7 @@ mod operators;
 mod reciprocal;
 
 pub use cell::Cell;
+pub use fused::{Kept, on_part, on_three, on_two_cells, one_into, two_into};
 pub use kernel::{
     Between, Complement, IsZero, Magnitude, Negated, On, OnNumber, OnOne, One, PartOf, Same, Two,
     WrapTo, choose, on_cells, on_one, on_pair, on_two, widen,

@@ -17,12 +17,15 @@ use std::test::Fail;
 
 const LANES: usize = 1000;
 
-const PARAMS: [&[u8]; 4] = [
-    b"p 0\nq 0\n",
-    b"p -1\nq 1\n",
-    b"p 1073741823\nq 32767\n",
-    b"p -1073741824\nq 10\n",
-];
+// The lines of a program's params.
+fn lines_of(number: u64) -> &'static [u8] {
+    match number % 4 {
+        0 => b"p 0\nq 0\n",
+        1 => b"p -1\nq 1\n",
+        2 => b"p 1073741823\nq 32767\n",
+        _ => b"p -1073741824\nq 10\n",
+    }
+}
 
 // Whether a run of the code over n lanes gives these values: on wide words, on the words that were chosen, and over
 // narrow cells where these were.
@@ -125,7 +128,7 @@ fn first_wrong(alloc: Global, seed: u64, words: &Words) -> Result<(u64, u64), Al
     let mut random = Random::new(seed);
     let mut narrow = 0u64;
     for number in 0..300u64 {
-        let lines = PARAMS[(number % 4) as usize];
+        let lines = lines_of(number);
         let (right, is_narrow) = holds(alloc, &mut random, words, number % 25, lines)?;
         if !right {
             return Ok((number, narrow));

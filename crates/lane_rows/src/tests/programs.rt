@@ -31,13 +31,13 @@ pub(crate) const INPUTS: usize = 14;
 /// The types of a program's inputs, as a sign and a width, and by how many bits its literals fall short of 64.
 #[derive(Clone, Copy)]
 pub(crate) struct Words {
-    types: [(bool, u8); INPUTS],
+    types: &'static [(bool, u8)],
     less: u32,
 }
 
 /// Types of all widths.
 pub(crate) const WIDE: Words = Words {
-    types: [
+    types: &[
         (true, 2),
         (true, 8),
         (true, 16),
@@ -58,7 +58,7 @@ pub(crate) const WIDE: Words = Words {
 
 /// Types whose operators compute as int32.
 pub(crate) const NARROW: Words = Words {
-    types: [
+    types: &[
         (true, 2),
         (true, 8),
         (true, 16),
@@ -77,7 +77,7 @@ pub(crate) const NARROW: Words = Words {
     less: 33,
 };
 
-const BINARY: [BinOp; 18] = [
+const BINARY: &[BinOp] = &[
     BinOp::LogOr,
     BinOp::LogAnd,
     BinOp::BitOr,
@@ -98,14 +98,16 @@ const BINARY: [BinOp; 18] = [
     BinOp::Max,
 ];
 
-const UNARY: [UnOp; 5] = [UnOp::Plus, UnOp::Minus, UnOp::Flip, UnOp::Not, UnOp::Abs];
+const UNARY: &[UnOp] = &[UnOp::Plus, UnOp::Minus, UnOp::Flip, UnOp::Not, UnOp::Abs];
 
-const NAMES: [u8; INPUTS] = *b"abcdefghijklmn";
+const NAMES: &[u8] = b"abcdefghijklmn";
 
 fn type_of(words: &Words, number: u64) -> Ty {
-    let (signed, bits) = words.types[(number % INPUTS as u64) as usize];
-    match Ty::new(signed, bits) {
-        Some(ty) => ty,
+    match words.types.get((number % INPUTS as u64) as usize) {
+        Some((signed, bits)) => match Ty::new(*signed, *bits) {
+            Some(ty) => ty,
+            None => int32(),
+        },
         None => int32(),
     }
 }
@@ -140,6 +142,20 @@ fn put(alloc: Global, stack: &mut Vec<Boxed<Expr>>, expr: Expr) -> Result<(), Al
     Ok(())
 }
 
+fn any_unary(random: &mut Random) -> UnOp {
+    match UNARY.get((random.next() % 5) as usize) {
+        Some(op) => *op,
+        None => UnOp::Plus,
+    }
+}
+
+fn any_binary(random: &mut Random) -> BinOp {
+    match BINARY.get((random.next() % 18) as usize) {
+        Some(op) => *op,
+        None => BinOp::Add,
+    }
+}
+
 // An operator on the topmost formula.
 fn put_unary(
     alloc: Global,
@@ -148,7 +164,7 @@ fn put_unary(
 ) -> Result<(), AllocError> {
     match stack.pop() {
         Some(a) => {
-            let op = UNARY[(random.next() % 5) as usize];
+            let op = any_unary(random);
             put(alloc, stack, Expr::Un(op, a))
         }
         None => Ok(()),
@@ -172,7 +188,7 @@ fn put_binary(
     match stack.pop() {
         Some(b) => match stack.pop() {
             Some(a) => {
-                let op = BINARY[(random.next() % 18) as usize];
+                let op = any_binary(random);
                 put(alloc, stack, Expr::Bin(op, a, b))
             }
             None => {
@@ -277,6 +293,14 @@ fn tensor(
     }
 }
 
+fn name(k: usize) -> &'static [u8] {
+    if k < NAMES.len() {
+        &NAMES[k..k + 1]
+    } else {
+        b"y"
+    }
+}
+
 fn tensors(
     alloc: Global,
     words: &Words,
@@ -288,7 +312,7 @@ fn tensors(
     let mut tensors = Items::new(alloc);
     for k in 0..INPUTS {
         let ty = type_of(words, k as u64);
-        tensors.push(tensor(alloc, &NAMES[k..k + 1], ty, Role::Input, None)?)?;
+        tensors.push(tensor(alloc, name(k), ty, Role::Input, None)?)?;
     }
     tensors.push(output.into_inner())?;
     Ok(tensors)
