@@ -11,11 +11,3 @@ stands_by r s k is at = let P : Kind → Type 0 = λ j. StandsAt r (content s j.
 
 pub stands_by_equal : (r : CellReader) (s : Store) (k j : Kind) → j ≡ k → StandsAt r (content s j.id) (s.place j.id) → StandsAt r (content s k.id) (s.place k.id)
 stands_by_equal r s k j is at = let P : Kind → Type 0 = λ j. StandsAt r (content s j.id) (s.place j.id) in subst P is at
-
--- a reader that stands at the first byte of every file stands at a place that is 0
-pub stands_first : (r : CellReader) (s : Store) (id : ℕ) → (kind r).id ≡ id → s.place id ≡ 0 → ((bytes : List ℕ) → StandsAt r bytes 0)
-    → StandsAt r (content s (kind r).id) (s.place (kind r).id)
-stands_first r s id is none at =
-    let zero : s.place (kind r).id ≡ 0 = ap (λ (k : ℕ). s.place k) is ∙ none in
-    let P : ℕ → Type 0 = λ n. StandsAt r (content s (kind r).id) n in
-    subst P (sym zero) (at (content s (kind r).id))

@@ -192,7 +192,7 @@ age_parts delays r h =
     let is : age delays r ≡ pos (at_least_0 (age delays r)) = at_least_0_is (age delays r) (omega (arith, ints)) in
     omega (arith, ints)
 
-at_least_0_within : (z : ℤ) (n : ℕ) → z ≤ℤ pos n → at_least_0 z ≤ n
+pub at_least_0_within : (z : ℤ) (n : ℕ) → z ≤ℤ pos n → at_least_0 z ≤ n
 at_least_0_within (pos m) n h = omega (arith, ints)
 at_least_0_within (negsuc m) n h = omega arith
 

@@ -15,5 +15,5 @@ pub use limits::{DELAY_END, MOST_BITS, MOST_OFFSET, MOST_READS, MOST_TENSORS};
 pub use net::{Net, Read};
 /// Want of memory.
 pub use std::alloc::AllocError as NoMemory;
-pub use storing::{storage, storage_of};
-pub use timing::meets;
+pub use storing::{storage, storage_of, storages};
+pub use timing::{age_of, meets};

@@ -1,4 +1,4 @@
-ghost use Rattle.std.specs.Prelude.{◌≡◌, ℕ, ◌<◌, length, slice_index};
+ghost use Rattle.std.specs.Prelude.{◌≡◌, ℕ, ◌<◌, ◌≤◌, length, slice_index};
 ghost use Rattle.delay_net.specs.Limits.{most_tensors};
 ghost use Rattle.delay_net.specs.Windows.{IsAssignment, HasShortDelays, MeetsWindows, IsGreatestAge, storage_of, total_storage};
 
@@ -23,13 +23,14 @@ pub fn storage_of(net: &Net, delays: &[u64], tensor: u32) -> u64
     greatest
 }
 
-// The storage of each tensor in cells.
-fn storage_of_each(net: &Net, delays: &[u64]) -> [u64; MOST_TENSORS]
+/// The storage of each tensor in cells, by the tensor's number.
+pub fn storages(net: &Net, delays: &[u64]) -> [u64; MOST_TENSORS]
     requires assignment { IsAssignment net.now.weights delays.now }
     requires delays { HasShortDelays delays.now }
     requires meets { MeetsWindows net.now.reads delays.now }
-    ensures { (tensor : ℕ) → tensor < most_tensors
+    ensures each { (tensor : ℕ) → tensor < most_tensors
         → slice_index result tensor ≡ storage_of net.now.reads delays.now tensor }
+    ensures few { length net.now.weights ≤ most_tensors }
 {
     let mut greatest = [0; MOST_TENSORS];
     for read in net.reads() {
@@ -46,7 +47,7 @@ pub fn storage(net: &Net, delays: &[u64]) -> u128
     requires meets { MeetsWindows net.now.reads delays.now }
     ensures { result ≡ total_storage net.now.weights net.now.reads delays.now }
 {
-    let greatest = storage_of_each(net, delays);
+    let greatest = storages(net, delays);
     let mut bits = 0;
     for (tensor, width) in net.weights().iter().enumerate() {
         bits += *width as u128 * greatest[tensor] as u128;

@@ -34,8 +34,9 @@ pub fn meets(net: &Net, delays: &[u64]) -> bool
     true
 }
 
-// The age of a read whose window is met, in cells.
-pub(crate) fn age_of(read: Read, delays: &[u64]) -> u64
+/// The age of a read whose window is met, in cells: how far behind its reader's newest cell the cell
+/// that it reads lies.
+pub fn age_of(read: Read, delays: &[u64]) -> u64
     requires reader { read.reader < length delays.now }
     requires of { read.of < length delays.now }
     requires offset { HasSmallOffset read }

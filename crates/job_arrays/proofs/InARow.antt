@@ -17,14 +17,6 @@ use Rattle.job_arrays.specs.Machine.OneFile.{CellsAre, ReadsFile}
 keeps_ids : (given : ℕ) (old mid new : Store) → KeepsIds given old mid → KeepsIds given mid new → KeepsIds given old new
 keeps_ids given old mid new a b = record { name = λ k lt. b.name k lt ∙ a.name k lt; opened = λ k lt. b.opened k lt ∙ a.opened k lt }
 
--- a reader that was just made stands at the first byte of its file
-pub stands_first : (r : CellReader) (s : Store) (id : ℕ) → (kind r).id ≡ id → s.place id ≡ 0 → ((bytes : List ℕ) → StandsAt r bytes 0)
-    → StandsAt r (content s (kind r).id) (s.place (kind r).id)
-stands_first r s id is none at =
-    let zero : s.place (kind r).id ≡ 0 = ap (λ (k : ℕ). s.place k) is ∙ none in
-    let P : ℕ → Type 0 = λ n. StandsAt r (content s (kind r).id) n in
-    subst P (sym zero) (at (content s (kind r).id))
-
 -- a fault of the first call
 module _ (k : Kind) (bytes : List ℕ) (given : ℕ) (out : List ℤ) where
   pub block_fault : (f : CellFault) → BlockIs k bytes given out (Err f) → CellsAre k.form k.ty k.cells bytes out (Err f)

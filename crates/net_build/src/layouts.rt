@@ -1,10 +1,8 @@
 ghost use Rattle.std.specs.Prelude.{◌≡◌, ◌<◌, ◌≤◌, IfOk, length, map, pos};
-ghost use Rattle.delay_net.specs.Shape.{HasSmallOffset};
 ghost use Rattle.delay_net.specs.Sums.{sum_below};
 ghost use Rattle.delay_net.specs.Windows.{
   HasShortDelays,
   IsAssignment,
-  MeetsWindow,
   MeetsWindows,
   age,
   at_least_0,
@@ -18,25 +16,11 @@ ghost use Rattle.net_build.specs.Planned.{plan_of};
 
 use crate::NoMemory;
 use crate::kinds::kinds_of;
-use delay_net::{Net, Read, storage_of};
+use delay_net::{Net, age_of, storage_of};
 use plan_net::Layout;
 use soda_ir::Program;
 use std::alloc::Global;
 use time_stages::Staged;
-
-// The age of a read whose window is met, in cells.
-fn age_of(read: Read, delays: &[u64]) -> u64
-    requires reader { read.reader < length delays.now }
-    requires of { read.of < length delays.now }
-    requires offset { HasSmallOffset read }
-    requires delays { HasShortDelays delays.now }
-    requires met { MeetsWindow delays.now read }
-    ensures { age delays.now read ≡ pos result }
-{
-    let reader = delays[read.reader as usize];
-    let of = delays[read.of as usize];
-    (reader as i64 - read.offset - of as i64) as u64
-}
 
 // The ages of the reads of a net in cells, in their order.
 fn ages_of(alloc: Global, net: &Net, delays: &[u64]) -> Result<Vec<u64>, NoMemory>

@@ -1,3 +1,2 @@
-pub mod StorageLemmas
 pub mod Written
 mod Examples

@@ -1,7 +1,6 @@
 //! The lines of a plan: staged tensors with their delays and storage, their reads with a certificate, and the total.
 #![tactic(auto)]
 
-mod ages;
 mod lines;
 mod text;
 

@@ -6,9 +6,8 @@ ghost use Rattle.time_stages.specs.Staged.{staged, staged_reads, staged_widths};
 ghost use Rattle.plan_lines.specs.Lines.{plan_lines, read_lines, tensor_lines};
 
 use crate::NoMemory;
-use crate::ages::{age_of, storages};
 use crate::text::{add_read, add_tensor, add_total};
-use delay_net::{Flow, Net, storage};
+use delay_net::{Flow, Net, age_of, storage, storages};
 use soda_ir::Program;
 use std::alloc::Global;
 use time_stages::Staged;

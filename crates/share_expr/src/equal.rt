@@ -1,6 +1,7 @@
 ghost use Rattle.std.specs.Prelude.{◌≡◌, ◌==◌, map, neg_ℤ, false, true};
 ghost use Rattle.soda_ir.specs.Tree.{formula_of};
-ghost use Rattle.share_shape.specs.Shifts.{are_shift_equal, binary_number, first_offset, has_cell, is_same, is_same_type, shifted, unary_number};
+ghost use Rattle.soda_words.specs.IntType.{is_same_type};
+ghost use Rattle.share_shape.specs.Shifts.{are_shift_equal, binary_number, first_offset, has_cell, is_same, shifted, unary_number};
 
 use crate::cells::{first_cell, is_same_distance};
 use soda_ir::{Expr, Offset};

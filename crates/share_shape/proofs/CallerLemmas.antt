@@ -22,7 +22,7 @@ pub use Rattle.share_shape.proofs.Counting.{any_one, same_cell, site_hits}
 pub use Rattle.share_shape.proofs.Ending.{ends, fewer}
 pub use Rattle.share_shape.proofs.Exact.{first_long, has_dims}
 pub use Rattle.share_shape.proofs.Fit.{IsFit}
-pub use Rattle.share_shape.proofs.Found.{Every, IsSite, none_closed, sites_have}
+pub use Rattle.share_shape.proofs.Found.{Every, IsSite, none_closed, sites_have, some_site}
 pub use Rattle.share_shape.proofs.Inserted.{map_insert}
 pub use Rattle.share_shape.proofs.Left.{nothing_left}
 pub use Rattle.share_shape.proofs.Same.{base_one, one_base}

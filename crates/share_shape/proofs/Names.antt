@@ -3,11 +3,11 @@ use Rattle.std.proofs.Common.{◌≡◌, ℕ, zero, suc, ◌+◌, ◌%◌, ◌^�
 use Rattle.std.specs.Fmt.{decimal}
 use Rattle.std.specs.List.{insert, list_all, list_any}
 use Rattle.std.proofs.lemmas.Bool.{and_from, and_parts, cases_lt, false_from_ne_true, false≢true, lt-ltb, not-true, or_parts}
-use Rattle.std.proofs.lemmas.Fmt.{decimal_by_steps, decimal_injective, length-decimal-le}
+use Rattle.std.proofs.lemmas.Fmt.{decimal_by_steps, decimal_injective}
 use Rattle.std.proofs.lemmas.List.Folds.{list_all-append}
 use Rattle.std.proofs.lemmas.Nat.{mod_below}
 use Rattle.soda_words.specs.Names.{is_free_name, is_word, is_word_byte}
-use Rattle.soda_words.proofs.CallerLemmas.{is_word-same, is_word-turned}
+use Rattle.soda_words.proofs.CallerLemmas.{is_word-same, is_word-turned, number_short}
 use Rattle.soda_ir.specs.Counts.{count_below}
 use Rattle.soda_ir.specs.Valid.{are_free_names}
 use Rattle.share_shape.specs.Procedure.{first_unused, is_used, share_name}
@@ -30,12 +30,9 @@ digits_fit n h =
     decimal_by_steps (λ m ds. list_all is_word_byte ds ≡ true) (λ m l. and_from _ _ (digit_at m l) refl)
     (λ m ds l e. list_all-append is_word_byte ds ((48 + m % 10) ∷ []) ∙ and_from _ _ e (and_from _ _ (digit_at (m % 10) (mod_below m 10 (omega arith))) refl)) n h
 
-few_digits : (n : ℕ) → n < 2 ^ 64 → length (decimal n) ≤ 20
-few_digits n h = let l : n < 10 ^ 20 = omega arith in length-decimal-le 20 n (omega arith) l h
-
 pub share_free : (n : ℕ) → n < 2 ^ 64 → is_free_name (share_name n) ≡ true
 share_free n h =
-    let short : length (104 ∷ 97 ∷ 114 ∷ 101 ∷ 95 ∷ decimal n) < 64 = omega (arith, few_digits n h) in
+    let short : length (104 ∷ 97 ∷ 114 ∷ 101 ∷ 95 ∷ decimal n) < 64 = omega (arith, number_short n h) in
     and_from _ _ (and_from _ _ (digits_fit n h) (lt-ltb _ _ short)) refl
 
 -- no two of them are the same

@@ -1,17 +1,16 @@
 -- The tests for equal formulas, and what equal based formulas share.
 use Rattle.std.proofs.Common.{◌≡◌, ℕ, true, ◌&&◌, ◌==◌, List, [], ◌∷◌, ℤ, slice_index_or, refl, sym, ◌∙◌, ap}
-use Rattle.std.specs.Bool.{beq}
-use Rattle.std.specs.Cmp.{booleans_Decides}
 use Rattle.std.specs.Ordering.{int_eq}
 use Rattle.std.proofs.lemmas.Bool.{and_from, and_parts, eq-eqb, eqb-true, false≢true}
 use Rattle.std.proofs.lemmas.Bool.Decides.{Decides-int_eq}
-use Rattle.soda_words.specs.IntType.{IntType}
+use Rattle.soda_words.specs.IntType.{is_same_type}
 use Rattle.soda_words.specs.declared.operators.BinOp.{BinOp}
 use Rattle.soda_words.specs.declared.operators.BinOp.TheVariants.{LogOr, LogAnd, BitOr, BitXor, BitAnd, Eq, Ne, Lt, Le, Gt, Ge, Add, Sub, Mul, Div, Rem, Min, Max}
 use Rattle.soda_words.specs.declared.operators.UnOp.{UnOp}
 use Rattle.soda_words.specs.declared.operators.UnOp.TheVariants.{Plus, Minus, Flip, Not, Abs}
+use Rattle.soda_words.proofs.CallerLemmas.{equal_types, type_itself}
 use Rattle.soda_ir.specs.Formula.{Formula, number, read, param, unary, binary, choice, cast}
-use Rattle.share_shape.specs.Shifts.{are_shift_equal, based, binary_number, is_same, is_same_offset, is_same_type, unary_number}
+use Rattle.share_shape.specs.Shifts.{are_shift_equal, based, binary_number, is_same, is_same_offset, unary_number}
 
 unary_at : ℕ → UnOp
 unary_at n = slice_index_or (Plus ∷ Minus ∷ Flip ∷ Not ∷ Abs ∷ []) n Plus
@@ -68,16 +67,6 @@ offset_self : (o : List ℤ) → is_same_offset o o ≡ true
 offset_self [] = refl
 offset_self (d ∷ ds) = and_from _ _ ((Decides-int_eq d d).1 refl) (offset_self ds)
 
-type_one : (t u : IntType) → is_same_type t u ≡ true → t ≡ u
-type_one t u e =
-    let parts = and_parts (beq t.signed u.signed) (t.bits == u.bits) e in
-    let sign : t.signed ≡ u.signed = (booleans_Decides t.signed u.signed).0 parts.0 in
-    let width : t.bits ≡ u.bits = eqb-true _ _ parts.1 in
-    λ i. record { signed = sign i; bits = width i }
-
-type_self : (t : IntType) → is_same_type t t ≡ true
-type_self t = and_from _ _ ((booleans_Decides t.signed t.signed).1 refl) (eq-eqb t.bits t.bits refl)
-
 -- the test is passed by one formula alone
 pub same_one : (f g : Formula) → is_same f g ≡ true → f ≡ g
 same_one (number n) (number m) e = ap number (eqb-true n m e)
@@ -112,7 +101,7 @@ same_one (choice c a b) (choice d f g) e =
     cc
 same_one (cast t a) (cast u b) e =
     let parts = and_parts (is_same_type t u) (is_same a b) e in
-    let x : t ≡ u = type_one t u parts.0 in
+    let x : t ≡ u = equal_types t u parts.0 in
     let y : a ≡ b = same_one a b parts.1 in
     cc
 same_one _ _ e = absurd (false≢true e)
@@ -125,7 +114,7 @@ same_self (unary op a) = and_from _ _ (eq-eqb (unary_number op) (unary_number op
 same_self (binary op a b) =
     and_from _ _ (and_from _ _ (eq-eqb (binary_number op) (binary_number op) refl) (same_self a)) (same_self b)
 same_self (choice c a b) = and_from _ _ (and_from _ _ (same_self c) (same_self a)) (same_self b)
-same_self (cast t a) = and_from _ _ (type_self t) (same_self a)
+same_self (cast t a) = and_from _ _ (type_itself t) (same_self a)
 
 -- shift-equal formulas are one, once based
 pub one_base : (f g : Formula) → are_shift_equal f g ≡ true → based f ≡ based g

@@ -1,8 +1,7 @@
 -- Formulas that differ by a vector alone.
 use Rattle.std.specs.Prelude.{◌≡◌, ℕ, Bool, true, false, not, ◌&&◌, ◌==◌, List, [], ◌∷◌, length, map, ℤ, neg_ℤ, if◌then◌else◌}
-use Rattle.std.specs.Bool.{beq}
 use Rattle.std.specs.Ordering.{int_eq}
-use Rattle.soda_words.specs.IntType.{IntType}
+use Rattle.soda_words.specs.IntType.{is_same_type}
 use Rattle.soda_words.specs.declared.operators.BinOp.{BinOp}
 use Rattle.soda_words.specs.declared.operators.BinOp.TheVariants.{LogOr, LogAnd, BitOr, BitXor, BitAnd, Eq, Ne, Lt, Le, Gt, Ge, Add, Sub, Mul, Div, Rem, Min, Max}
 use Rattle.soda_words.specs.declared.operators.UnOp.{UnOp}
@@ -71,10 +70,6 @@ binary_number Div = 14
 binary_number Rem = 15
 binary_number Min = 16
 binary_number Max = 17
-
--- two types are one
-abbrev pub is_same_type : IntType → IntType → Bool
-is_same_type t u = beq t.signed u.signed && t.bits == u.bits
 
 -- two offsets are one
 abbrev pub is_same_offset : List ℤ → List ℤ → Bool

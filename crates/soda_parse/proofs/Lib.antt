@@ -37,3 +37,4 @@ pub mod WrittenCosts
 pub mod SmallFormulas
 pub mod WrittenLines
 pub mod Accepted
+pub mod CallerLemmas

@@ -1,34 +1,17 @@
 -- Lists of types that are equal.
-use Rattle.std.proofs.Common.{◌≡◌, ◌↔◌, Bool, true, false, not, ◌&&◌, List, [], ◌∷◌, IsTrue, refl, sym, ap, ◌∙◌, cond, ℕ, ◌==◌}
-use Rattle.std.proofs.lemmas.Bool.{eq-eqb, eqb-true}
-use Rattle.soda_words.specs.IntType.{IntType}
-use Rattle.soda_parse.specs.ProgramConditions.{are_same_types, is_same_type}
-
-same_signs : (a : Bool) → cond a a (not a) ≡ true
-same_signs true = refl
-same_signs false = refl
-
-one_type : (a : IntType) → is_same_type a a ≡ true
-one_type a = rw (same_signs a.signed, eq-eqb a.bits a.bits refl) refl
+use Rattle.std.proofs.Common.{◌≡◌, ◌↔◌, Bool, true, false, ◌&&◌, List, [], ◌∷◌, IsTrue, refl, sym, ap, ◌∙◌}
+use Rattle.soda_words.specs.IntType.{IntType, is_same_type}
+use Rattle.soda_words.proofs.CallerLemmas.{equal_types, type_itself}
+use Rattle.soda_parse.specs.ProgramConditions.{are_same_types}
 
 -- where both of two hold, each does
 pub both_of : (a b : Bool) → (a && b) ≡ true → (a ≡ true) × (b ≡ true)
 both_of true b h = (refl, h)
 both_of false b h = cc
 
-equal_fields : (s t : Bool) (m n : ℕ) → (cond s t (not t) && (m == n)) ≡ true → ◌≡◌ {A =
-    IntType} (record { signed = s; bits = m }) (record { signed = t; bits = n })
-equal_fields true true m n h = ap (λ (k : ℕ). record { signed = true; bits = k }) (eqb-true m n h)
-equal_fields false false m n h = ap (λ (k : ℕ). record { signed = false; bits = k }) (eqb-true m n h)
-equal_fields true false m n h = cc
-equal_fields false true m n h = cc
-
-equal_types : (a b : IntType) → is_same_type a b ≡ true → a ≡ b
-equal_types a b h = equal_fields a.signed b.signed a.bits b.bits h
-
 one_list : (ts : List IntType) → are_same_types ts ts ≡ true
 one_list [] = refl
-one_list (t ∷ ts) = rw (one_type t, one_list ts) refl
+one_list (t ∷ ts) = rw (type_itself t, one_list ts) refl
 
 -- lists of the same types are equal
 pub equal_lists : (ts us : List IntType) → are_same_types ts us ≡ true → ts ≡ us

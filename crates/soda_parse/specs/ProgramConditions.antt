@@ -1,7 +1,7 @@
 -- The conditions on the program that statements stand for, each as what it finds wrong.
 use Rattle.std.specs.Prelude.{ℕ, suc, ◌+◌, ◌*◌, Bool, true, false, not, ◌&&◌, ◌==◌, nat_le, nat_lt, List, [], ◌∷◌, map, length, Option, Some, None, find, if◌then◌else◌, ℤ, unsigned_abs}
 use Rattle.std.specs.List.{list_all}
-use Rattle.soda_words.specs.IntType.{IntType}
+use Rattle.soda_words.specs.IntType.{IntType, is_same_type}
 use Rattle.soda_checks.specs.Conditions.{is_tensor}
 use Rattle.soda_checks.specs.declared.outline.Defined.{Defined}
 use Rattle.soda_checks.specs.declared.outline.Outline.{Outline}
@@ -23,10 +23,6 @@ circular_from p n (d ∷ ds) = if can_be_placed p n then circular_from p (suc n)
 -- Circular: the line of the name of the first local or output that cannot be placed
 abbrev pub circular : Outline → PlainProgram → Option ℕ
 circular o p = circular_from p (length o.inputs) o.defined
-
--- two types are one
-abbrev pub is_same_type : IntType → IntType → Bool
-is_same_type a b = (if a.signed then b.signed else not b.signed) && a.bits == b.bits
 
 -- two lists have the same types, in order
 abbrev pub are_same_types : List IntType → List IntType → Bool

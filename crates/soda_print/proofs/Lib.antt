@@ -8,5 +8,6 @@ pub mod Read
 pub mod Readable
 pub mod Sizing
 pub mod Ascii
+pub mod Printable
 pub mod Short
 pub mod CallerLemmas

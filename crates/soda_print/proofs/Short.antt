@@ -3,7 +3,6 @@ use Rattle.std.proofs.Common.{◌≡◌, ℕ, suc, ◌+◌, ◌*◌, ◌<◌, �
 use Rattle.std.specs.Fmt.{decimal, signed_decimal}
 use Rattle.std.specs.List.{list_all}
 use Rattle.std.proofs.lemmas.Bool.Decides.{nat_tests}
-use Rattle.std.proofs.lemmas.Fmt.{length-decimal-le}
 use Rattle.std.proofs.lemmas.List.Sums.{sum_by-cons}
 use Rattle.std.proofs.lemmas.Bool.{and_parts}
 use Rattle.soda_words.specs.IntType.{IntType}
@@ -21,6 +20,7 @@ use Rattle.soda_ir.specs.declared.program.Border.TheVariants.{Ignore, Preserve}
 use Rattle.soda_ir.specs.declared.program.Role.{Role}
 use Rattle.soda_ir.specs.declared.program.Role.TheVariants.{Input, Local, Output}
 use Rattle.soda_words.specs.Names.{begins_name, is_name, is_word_byte}
+use Rattle.soda_words.proofs.CallerLemmas.{number_short}
 use Rattle.soda_print.specs.Canonical.{behind_commas, binary_text, border_word, canonical, ended, formula_text, headed, in_pairs, indexes, indexes_text, left_text, listed, param_line, parted, role_word, setting_lines, tensor_line, tensor_name, tile_text, type_text, unary_text, value_text}
 use Rattle.soda_print.specs.Sized.{IsSizedProgram}
 use Rattle.soda_print.proofs.Read.{AreParams, AreSettings, AreTensors, IsBody, IsReadBack}
@@ -33,10 +33,6 @@ name_short [] h = cc
 name_short (b ∷ bs) h =
     let less : length bs < 64 = ltb-true (length bs) 64 ((and_parts (begins_name b && list_all is_word_byte bs) (nat_lt (length bs) 64) h).1) in
     omega arith
-
--- a number at most 20 digits
-number_short : (n : ℕ) → n < 2 ^ 64 → length (decimal n) ≤ 20
-number_short n h = length-decimal-le 20 n (omega arith) (omega arith) h
 
 component_short : (d : ℤ) → unsigned_abs d < 2 ^ 64 → length (signed_decimal d) ≤ 21
 component_short (pos n) h = let few : length (decimal n) ≤ 20 = number_short n h in omega arith

@@ -1,16 +1,19 @@
--- What crates above cite: words as equal lists, where a word first stands in a list, and numbers as they are written.
-use Rattle.std.proofs.Common.{◌≡◌, ℕ, zero, suc, ◌+◌, ◌<◌, ◌^◌, Bool, true, false, not, cond, ◌&&◌, ◌||◌, ◌==◌, List, [], ◌∷◌, ◌++◌, map, length, get_or, Option, None, Some, is_some, if◌then◌else◌, refl, sym, ap, ◌∙◌, true≢false, arith, ltb, lt-ltb, rules}
+-- What crates above cite: words as equal lists, where a word first stands in a list, numbers as they are written, and equal types.
+use Rattle.std.proofs.Common.{◌≡◌, ℕ, zero, suc, ◌+◌, ◌<◌, ◌≤◌, ◌^◌, Bool, true, false, not, cond, ◌&&◌, ◌||◌, ◌==◌, List, [], ◌∷◌, ◌++◌, map, length, get_or, Option, None, Some, is_some, if◌then◌else◌, refl, sym, ap, ◌∙◌, true≢false, arith, ltb, lt-ltb, rules}
 use Rattle.std.proofs.Math.Dec.{eqb-suc-zero}
 use Rattle.std.specs.Prelude.{position, find, slice_get, bytes_eq, unwrap_or, nat_lt}
+use Rattle.std.specs.Bool.{beq}
+use Rattle.std.specs.Cmp.{booleans_Decides}
 use Rattle.std.specs.List.{list_all, list_any, position_from, position_or_len}
 use Rattle.std.specs.Fmt.{decimal}
 use Rattle.std.proofs.lemmas.Bool.{and_from, and_parts, eqb-true, eq-eqb, or_right}
-use Rattle.std.proofs.lemmas.Fmt.{decimal-digits_value, decimal_digit, decimal_nonempty, digits_decimal, digits_value-decimal, first_decimal}
+use Rattle.std.proofs.lemmas.Fmt.{decimal-digits_value, decimal_digit, decimal_nonempty, digits_decimal, digits_value-decimal, first_decimal, length-decimal-le}
 use Rattle.std.proofs.lemmas.Str.Parse.{IsNumeralModel, numerals_by_fold}
 use borrow.Author.Tests.{ltb-true}
 use Rattle.std.proofs.lemmas.Iterator.Adapters.{position_from-zero}
 use Rattle.std.proofs.lemmas.List.Folds.{find_at}
 use Rattle.std.proofs.lemmas.Slice.Eq.{bytes_eq-Decides}
+use Rattle.soda_words.specs.IntType.{IntType, is_same_type}
 use Rattle.soda_words.specs.Names.{begins_name, behind, is_digit, is_some_digits, is_word, is_word_byte}
 use Rattle.soda_words.specs.Tokens.{begins_with_zero, is_number, or_else, value_behind}
 
@@ -177,3 +180,19 @@ number_written ds h =
     let small : value_behind 0 ds < 2 ^ 64 = ltb-true (value_behind 0 ds) (2 ^ 64) outer.1 in
     let d = some_are_digits ds inner.0 in
     (sym (decimal-digits_value own ds d.0 d.1 (zero_first ds inner.1) small), small)
+
+-- a number of 64 bits has at most 20 digits
+pub number_short : (n : ℕ) → n < 2 ^ 64 → length (decimal n) ≤ 20
+number_short n h = length-decimal-le 20 n (omega arith) (omega arith) h
+
+-- the test for equal types is passed by one type alone
+pub equal_types : (t u : IntType) → is_same_type t u ≡ true → t ≡ u
+equal_types t u e =
+    let parts = and_parts (beq t.signed u.signed) (t.bits == u.bits) e in
+    let sign : t.signed ≡ u.signed = (booleans_Decides t.signed u.signed).0 parts.0 in
+    let width : t.bits ≡ u.bits = eqb-true _ _ parts.1 in
+    λ i. record { signed = sign i; bits = width i }
+
+-- and by each type itself
+pub type_itself : (t : IntType) → is_same_type t t ≡ true
+type_itself t = and_from _ _ ((booleans_Decides t.signed t.signed).1 refl) (eq-eqb t.bits t.bits refl)

@@ -1,5 +1,6 @@
 -- The integer types, and the bytes of their cells.
-use Rattle.std.specs.Prelude.{ℕ, ◌*◌, ◌≤◌, ◌<◌, Bool, IsTrue, true, false, List, [], ◌∷◌, Contains}
+use Rattle.std.specs.Prelude.{ℕ, ◌*◌, ◌≤◌, ◌<◌, ◌==◌, Bool, ◌&&◌, IsTrue, true, false, List, [], ◌∷◌, Contains}
+use Rattle.std.specs.Bool.{beq}
 
 -- a sign and a width in bits
 pub record IntType : Type 0 where
@@ -11,6 +12,10 @@ pub record IsType (t : IntType) : Type 0 where
   pub some : 0 < t.bits
   pub most : t.bits ≤ 64
   pub sign : IsTrue t.signed → 2 ≤ t.bits
+
+-- two types are one
+abbrev pub is_same_type : IntType → IntType → Bool
+is_same_type t u = beq t.signed u.signed && t.bits == u.bits
 
 -- the signed type of 32 bits
 abbrev pub int32 : IntType

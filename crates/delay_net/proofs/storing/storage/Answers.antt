@@ -15,11 +15,11 @@ loop-tensor-preserved c =
     let net = c.args.net.now in
     let bits_of : ℕ → ℕ = λ t. slice_index net.weights t * storage_of net.reads c.args.delays.now t in
     let width = get_or c.weights-width-items.result.now i 0 in
-    let cells = get_or c.storage_of_each-greatest.result i 0 in
+    let cells = get_or c.storages-greatest.result i 0 in
     let in_table : i < most_tensors = search rules in
     let term : width * cells ≡ bits_of i =
     ap (λ ws. get_or ws i 0 * cells) c.weights-width-items.ensures.value
-    ∙ ap (λ n. get_or net.weights i 0 * n) (c.storage_of_each-greatest.ensures i in_table) in
+    ∙ ap (λ n. get_or net.weights i 0 * n) (c.storages-greatest.ensures.each i in_table) in
     let narrow : width ≤ 2 ^ 8 = search rules in
     let short : cells ≤ 2 ^ 64 = search rules in
     record {

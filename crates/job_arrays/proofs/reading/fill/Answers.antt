@@ -1,6 +1,6 @@
 use Rattle.std.proofs.Common.{ap}
 use Rattle.bursts.specs.Blocks.{Kind}
-use Rattle.job_arrays.proofs.InARow.{stands_first}
+use Rattle.bursts.proofs.CallerLemmas.{stands_first}
 use Rattle.job_arrays.proofs.reading.fill.Goals as goal
 
 pub read_all-answer-requires-clause-stands : goal.read_all-answer-requires-clause-stands

@@ -1,7 +1,7 @@
 use Rattle.std.proofs.Common.{ap}
 use Rattle.soda_io.specs.Mem.{mem_store}
 use Rattle.bursts.specs.Blocks.{Kind}
-use Rattle.cell_rows.proofs.Standing.{stands_first}
+use Rattle.bursts.proofs.CallerLemmas.{stands_first}
 use Rattle.cell_rows.proofs.tests.reading.read_by.Goals as goal
 
 pub read_blocks-requires-clause-stands : goal.read_blocks-requires-clause-stands

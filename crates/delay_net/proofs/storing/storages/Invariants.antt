@@ -1,7 +1,7 @@
 use Rattle.std.proofs.Common.{◌≡◌, ℕ, ◌<◌, length, slice_index, drop, max}
 use Rattle.delay_net.specs.Limits.{most_tensors}
 use Rattle.delay_net.specs.Windows.{storage_of}
-use Rattle.delay_net.proofs.storing.storage_of_each.Given as goal
+use Rattle.delay_net.proofs.storing.storages.Given as goal
 
 -- at each tensor, the greatest age so far and the storage by the reads that are left give the storage
 abbrev pub invariant-loop-read : goal.invariant-loop-read

@@ -3,7 +3,7 @@ use Rattle.std.proofs.lemmas.List.{get_or-replicate, length-replicate}
 use Rattle.delay_net.specs.Limits.{most_tensors}
 use Rattle.delay_net.specs.Windows.{storage_of}
 use Rattle.delay_net.proofs.Steps.{storage_each, storage_done}
-use Rattle.delay_net.proofs.storing.storage_of_each.Goals as goal
+use Rattle.delay_net.proofs.storing.storages.Goals as goal
 
 pub loop-read-init : goal.loop-read-init
 loop-read-init c = record {
@@ -26,7 +26,7 @@ loop-read-preserved c =
           (c.loop-read.invariant.told tensor lt);
     }
 
-pub returns : goal.returns
-returns c = λ tensor lt.
+pub returns-clause-each : goal.returns-clause-each
+returns-clause-each c = λ tensor lt.
     storage_done c.reads-read-items.result.now c.args.delays.now tensor c.loop-read.read-index _ _ c.loop-read-test.false (c.loop-read.invariant.told tensor lt)
     ∙ ap (λ reads. storage_of reads c.args.delays.now tensor) c.reads-read-items.ensures.value
