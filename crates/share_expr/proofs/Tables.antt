@@ -10,7 +10,7 @@ use Rattle.share_shape.specs.Compounds.{Site, counted_before, sites_from}
 use Rattle.share_shape.specs.Counts.{hits, one, tensor_hits, total}
 use Rattle.share_shape.specs.Procedure.{first_shared}
 use Rattle.share_shape.specs.Shifts.{are_shift_equal, has_cell}
-use Rattle.share_shape.proofs.CallerLemmas.{Every, IsSite, has_dims, none_closed, same_cell, sites_have}
+use Rattle.share_shape.proofs.CallerLemmas.{Every, IsSite, has_dims, none_closed, same_cell, sites_have, some_site}
 use Rattle.share_expr.specs.Marks.{first_of, have_dims, is_repeated, mark, mark_hit, mark_hits, tensor_marks}
 use Rattle.share_expr.specs.Search.{first_passing, is_twice, site_passing}
 use Rattle.share_expr.proofs.Alike.{same_mark}
