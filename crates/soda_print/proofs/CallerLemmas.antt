@@ -13,6 +13,8 @@ pub use Rattle.soda_print.proofs.Readable.{count_cons, count_there, positive, so
 pub use Rattle.soda_print.proofs.Short.{few_indexes}
 -- the canonical text of a valid program whose numbers fit can be read back: its tokens, its bytes and its length
 pub use Rattle.soda_print.proofs.Readable.{canonical_read, readable}
+-- lines that are ended, in two parts
+pub use Rattle.soda_print.proofs.Written.{ended-append}
 pub use Rattle.soda_print.proofs.Ascii.{canonical_ascii}
 -- bytes that show, in names, numbers, formulas and the lines of a canonical text
 pub use Rattle.soda_print.proofs.Printable.{AllPrintable, are_printable, formula_printable, is_printable, lines_printable, name_printable, number_printable, printable_append}
