@@ -16,4 +16,4 @@ pub use net::{Net, Read};
 /// Want of memory.
 pub use std::alloc::AllocError as NoMemory;
 pub use storing::{storage, storage_of, storages};
-pub use timing::{age_of, meets};
+pub use timing::{age_of, meets, meets_window};

@@ -5,8 +5,8 @@ ghost use Rattle.delay_net.specs.Windows.{IsAssignment, HasShortDelays, MeetsWin
 
 use crate::{Net, Read};
 
-// Whether an assignment meets the window of one read.
-fn meets_window(read: Read, delays: &[u64]) -> bool
+/// Whether an assignment meets the window of one read.
+pub fn meets_window(read: Read, delays: &[u64]) -> bool
     requires reader { read.reader < length delays.now }
     requires of { read.of < length delays.now }
     requires offset { HasSmallOffset read }
