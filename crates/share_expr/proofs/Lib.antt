@@ -7,3 +7,4 @@ pub mod Passed
 pub mod Alike
 pub mod Types
 pub mod Tables
+pub mod Unequal

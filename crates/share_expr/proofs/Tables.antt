@@ -93,7 +93,6 @@ module _ (d : ℕ) (c : Formula) (cell : has_cell c ≡ true) (dims : has_dims d
   twice_repeated ts count e known h =
       le-leb 2 (count (mark c)) (omega (arith, known (mark c), total_marked ts e, leb-true 2 (total (tensor_hits c) ts) h))
 
-
 -- the first of a weaker test, where it passes the stronger one
 module _ (weak strong : Formula → Bool) where
   abbrev Weaker : Site → Type 0

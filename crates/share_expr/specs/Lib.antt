@@ -1,3 +1,4 @@
 pub mod Working
 pub mod Search
 pub mod Marks
+pub mod Sizes

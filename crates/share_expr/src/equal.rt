@@ -120,52 +120,6 @@ fn is_same(a: &Expr, first: &Offset, b: &Expr, other: &Offset) -> bool
     }
 }
 
-/// Whether two formulas are of one form, with one operator or type: else they are not shift-equal. It looks at no part.
-#[tactic(auto, using(soda_ir::proofs::CallerLemmas::levels))]
-pub(crate) fn is_same_root(a: &Expr, b: &Expr) -> bool
-    ensures { result ≡ false → are_shift_equal (formula_of a.now) (formula_of b.now) ≡ false }
-{
-    match a {
-        Expr::Un(op, _) => match b {
-            Expr::Un(po, _) => is_same_unary(*op, *po),
-            Expr::Num(_)
-            | Expr::Cell { .. }
-            | Expr::Par { .. }
-            | Expr::Bin(..)
-            | Expr::Select(..)
-            | Expr::Cast(..) => false,
-        },
-        Expr::Bin(op, ..) => match b {
-            Expr::Bin(po, ..) => is_same_binary(*op, *po),
-            Expr::Num(_)
-            | Expr::Cell { .. }
-            | Expr::Par { .. }
-            | Expr::Un(..)
-            | Expr::Select(..)
-            | Expr::Cast(..) => false,
-        },
-        Expr::Select(..) => match b {
-            Expr::Select(..) => true,
-            Expr::Num(_)
-            | Expr::Cell { .. }
-            | Expr::Par { .. }
-            | Expr::Un(..)
-            | Expr::Bin(..)
-            | Expr::Cast(..) => false,
-        },
-        Expr::Cast(ty, _) => match b {
-            Expr::Cast(yt, _) => is_same_type(*ty, *yt),
-            Expr::Num(_)
-            | Expr::Cell { .. }
-            | Expr::Par { .. }
-            | Expr::Un(..)
-            | Expr::Bin(..)
-            | Expr::Select(..) => false,
-        },
-        Expr::Num(_) | Expr::Cell { .. } | Expr::Par { .. } => true,
-    }
-}
-
 /// Whether two formulas with a cell each are shift-equal.
 pub(crate) fn are_shift_equal(a: &Expr, b: &Expr) -> bool
     requires one { has_cell (formula_of a.now) ≡ true }

@@ -1,22 +1,26 @@
 ghost use Rattle.std.specs.Prelude.{◌≡◌, ◌≤◌, ◌+◌, ◌&&◌, map, min, option_map, true};
 ghost use Rattle.soda_ir.specs.Program.{plain_tensor};
 ghost use Rattle.share_expr.specs.Search.{first_passing, is_twice};
+ghost use Rattle.share_expr.specs.Sizes.{joined, size};
 ghost use Rattle.share_shape.specs.Counts.{hits, one, tensor_hits};
 ghost use Rattle.share_shape.specs.Compounds.{compounds};
 ghost use Rattle.soda_ir.specs.Tree.{formula_of};
 ghost use Rattle.share_shape.specs.Shifts.{are_shift_equal, has_cell};
 
 use crate::cells::first_cell;
-use crate::equal::{are_shift_equal, is_same_root};
+use crate::equal::are_shift_equal;
+use crate::sizes::{joined, size};
 use soda_ir::{Expr, Tensor};
 
-/// Whether a formula is shift-equal to a compound.
-#[tactic(auto, using(share_shape::proofs::CallerLemmas::no_hit))]
-pub(crate) fn is_hit(compound: &Expr, expr: &Expr) -> bool
-    requires { has_cell (formula_of compound.now) ≡ true }
+// Whether a formula is shift-equal to a compound. Each has a size.
+#[tactic(auto, using(share_shape::proofs::CallerLemmas::no_hit, crate::proofs::Unequal::unequal))]
+fn is_hit(compound: &Expr, wanted: u64, expr: &Expr, own: u64) -> bool
+    requires cell { has_cell (formula_of compound.now) ≡ true }
+    requires wanted { wanted ≡ size (formula_of compound.now) }
+    requires own { own ≡ size (formula_of expr.now) }
     ensures { result ≡ are_shift_equal (formula_of compound.now) (formula_of expr.now) }
 {
-    if !is_same_root(compound, expr) {
+    if own != wanted {
         return false;
     }
     match first_cell(expr) {
@@ -42,45 +46,57 @@ fn as_count(hit: bool) -> u8
     if hit { 1 } else { 0 }
 }
 
-/// How many operators, calls and casts of a formula are shift-equal to a compound, at most 2.
+/// How many operators, calls and casts of a formula are shift-equal to a compound of this size, at most 2, and the
+/// formula's own size.
 #[tactic(auto, using(soda_ir::proofs::CallerLemmas::levels))]
-pub(crate) fn hits(compound: &Expr, expr: &Expr) -> u8
-    requires { has_cell (formula_of compound.now) ≡ true }
-    ensures value { result ≡ min 2 (hits (formula_of compound.now) (formula_of expr.now)) }
-    ensures few { result ≤ 2 }
+fn hits(compound: &Expr, wanted: u64, expr: &Expr) -> (u8, u64)
+    requires cell { has_cell (formula_of compound.now) ≡ true }
+    requires wanted { wanted ≡ size (formula_of compound.now) }
+    ensures value { result.0 ≡ min 2 (hits (formula_of compound.now) (formula_of expr.now)) }
+    ensures few { result.0 ≤ 2 }
+    ensures size { result.1 ≡ size (formula_of expr.now) }
 {
     match expr {
-        Expr::Num(_) | Expr::Cell { .. } | Expr::Par { .. } => 0,
+        Expr::Num(_) | Expr::Cell { .. } | Expr::Par { .. } => (0, 1),
         Expr::Un(_, a) => {
-            let here = as_count(is_hit(compound, expr));
-            added(here, hits(compound, a.get()))
+            let (inside, size) = hits(compound, wanted, a.get());
+            let size = joined(0, size);
+            let here = as_count(is_hit(compound, wanted, expr, size));
+            (added(here, inside), size)
         }
         Expr::Bin(_, a, b) => {
-            let here = as_count(is_hit(compound, expr));
-            let inside = added(hits(compound, a.get()), hits(compound, b.get()));
-            added(here, inside)
+            let (left, size) = hits(compound, wanted, a.get());
+            let (right, more) = hits(compound, wanted, b.get());
+            let size = joined(size, more);
+            let here = as_count(is_hit(compound, wanted, expr, size));
+            (added(here, added(left, right)), size)
         }
         Expr::Select(c, a, b) => {
-            let here = as_count(is_hit(compound, expr));
-            let inside = added(hits(compound, a.get()), hits(compound, b.get()));
-            let all = added(hits(compound, c.get()), inside);
-            added(here, all)
+            let (test, size) = hits(compound, wanted, c.get());
+            let (left, more) = hits(compound, wanted, a.get());
+            let (right, most) = hits(compound, wanted, b.get());
+            let size = joined(size, joined(more, most));
+            let here = as_count(is_hit(compound, wanted, expr, size));
+            (added(here, added(test, added(left, right))), size)
         }
         Expr::Cast(_, a) => {
-            let here = as_count(is_hit(compound, expr));
-            added(here, hits(compound, a.get()))
+            let (inside, size) = hits(compound, wanted, a.get());
+            let size = joined(0, size);
+            let here = as_count(is_hit(compound, wanted, expr, size));
+            (added(here, inside), size)
         }
     }
 }
 
-// The same of a tensor's formula, if it has one.
-fn tensor_hits(compound: &Expr, tensor: &Tensor) -> u8
-    requires { has_cell (formula_of compound.now) ≡ true }
+// The first of it of a tensor's formula, if it has one.
+fn tensor_hits(compound: &Expr, wanted: u64, tensor: &Tensor) -> u8
+    requires cell { has_cell (formula_of compound.now) ≡ true }
+    requires wanted { wanted ≡ size (formula_of compound.now) }
     ensures value { result ≡ min 2 (tensor_hits (formula_of compound.now) (plain_tensor tensor.now)) }
     ensures few { result ≤ 2 }
 {
     match &tensor.formula {
-        Some(formula) => hits(compound, formula),
+        Some(formula) => hits(compound, wanted, formula).0,
         None => 0,
     }
 }
@@ -90,9 +106,10 @@ pub(crate) fn is_twice(compound: &Expr, tensors: &[Tensor]) -> bool
     requires { has_cell (formula_of compound.now) ≡ true }
     ensures { result ≡ is_twice (map plain_tensor tensors.now) (formula_of compound.now) }
 {
+    let wanted = size(compound);
     let mut many: u8 = 0;
     for tensor in tensors {
-        many = added(many, tensor_hits(compound, tensor));
+        many = added(many, tensor_hits(compound, wanted, tensor));
         if many == 2 {
             return true;
         }

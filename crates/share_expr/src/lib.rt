@@ -12,6 +12,7 @@ mod names;
 mod replaced;
 mod sharing;
 mod sites;
+mod sizes;
 mod step;
 mod table;
 

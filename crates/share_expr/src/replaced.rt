@@ -2,12 +2,14 @@ ghost use Rattle.std.specs.Prelude.{◌≡◌, map, neg_ℤ, false, true, IfOk, 
 ghost use Rattle.soda_ir.specs.Formula.{read};
 ghost use Rattle.soda_ir.specs.Tree.{formula_of};
 ghost use Rattle.share_shape.specs.Procedure.{further, renumbered, replaced};
+ghost use Rattle.share_expr.specs.Sizes.{joined, size};
 ghost use Rattle.share_shape.specs.Shifts.{are_shift_equal, first_offset, has_cell, shifted};
 
 use crate::NoMemory;
 use crate::cells::{difference, first_cell};
 use crate::copies::copy_offset;
-use crate::equal::{are_shift_equal, is_same_root};
+use crate::equal::are_shift_equal;
+use crate::sizes::{joined, size};
 use soda_ir::{Expr, Offset};
 use sqlite_items::Boxed;
 use std::alloc::Global;
@@ -75,15 +77,18 @@ pub(crate) fn local_formula(
     }
 }
 
-// The cell of the local at a number that stands for a formula, where it is shift-equal to the local's compound.
-#[tactic(auto, using(soda_ir::proofs::CallerLemmas::levels, share_shape::proofs::CallerLemmas::no_hit))]
-fn cell_for(at: u32, compound: &Expr, expr: &Expr) -> Option<Expr>
-    requires { has_cell (formula_of compound.now) ≡ true }
+// The cell of the local at a number that stands for a formula, where it is shift-equal to the local's compound. Each has
+// a size.
+#[tactic(auto, using(soda_ir::proofs::CallerLemmas::levels, share_shape::proofs::CallerLemmas::no_hit, crate::proofs::Unequal::unequal))]
+fn cell_for(at: u32, compound: &Expr, wanted: u64, expr: &Expr, own: u64) -> Option<Expr>
+    requires cell { has_cell (formula_of compound.now) ≡ true }
+    requires wanted { wanted ≡ size (formula_of compound.now) }
+    requires own { own ≡ size (formula_of expr.now) }
     ensures { MatchOption result (are_shift_equal (formula_of compound.now) (formula_of expr.now) ≡ false)
         (λ e. (are_shift_equal (formula_of compound.now) (formula_of expr.now) ≡ true)
         × (formula_of e ≡ read at (first_offset (formula_of expr.now)))) }
 {
-    if !is_same_root(compound, expr) {
+    if own != wanted {
         return None;
     }
     match first_cell(expr) {
@@ -101,66 +106,88 @@ fn cell_for(at: u32, compound: &Expr, expr: &Expr) -> Option<Expr>
     }
 }
 
-/// The formula over the tensors with a local at a number, where each compound that is shift-equal to the local's is
-/// read from it.
+/// The formula over the tensors with a local at a number, where each compound that is shift-equal to the local's, which
+/// is of a size, is read from it; and the size of the formula before.
 #[tactic(auto, using(soda_ir::proofs::CallerLemmas::levels))]
 pub(crate) fn replaced(
     alloc: Global,
     at: u32,
     compound: &Expr,
+    wanted: u64,
     expr: &Expr,
-) -> Result<Expr, NoMemory>
-    requires { has_cell (formula_of compound.now) ≡ true }
-    ensures { IfOk result (λ e. formula_of e ≡ replaced at (formula_of compound.now) (formula_of expr.now)) }
+) -> Result<(Expr, u64), NoMemory>
+    requires cell { has_cell (formula_of compound.now) ≡ true }
+    requires wanted { wanted ≡ size (formula_of compound.now) }
+    ensures formula { IfOk result (λ r. formula_of r.0 ≡ replaced at (formula_of compound.now) (formula_of expr.now)) }
+    ensures size { IfOk result (λ r. r.1 ≡ size (formula_of expr.now)) }
 {
     match expr {
-        Expr::Num(n) => Ok(Expr::Num(*n)),
+        Expr::Num(n) => Ok((Expr::Num(*n), 1)),
         Expr::Cell { tensor, offset } => {
             let tensor = further(at, *tensor)?;
-            Ok(Expr::Cell {
-                tensor,
-                offset: copy_offset(offset.as_slice()),
-            })
+            let offset = copy_offset(offset.as_slice());
+            Ok((Expr::Cell { tensor, offset }, 1))
         }
-        Expr::Par { param, place } => Ok(Expr::Par {
-            param: *param,
-            place: *place,
-        }),
-        Expr::Un(op, a) => match cell_for(at, compound, expr) {
-            Some(cell) => Ok(cell),
-            None => {
-                let a = replaced(alloc, at, compound, a.get())?;
-                Ok(Expr::Un(*op, Boxed::new(alloc, a)?))
+        Expr::Par { param, place } => {
+            let (param, place) = (*param, *place);
+            Ok((Expr::Par { param, place }, 1))
+        }
+        Expr::Un(op, a) => {
+            let (a, size) = replaced(alloc, at, compound, wanted, a.get())?;
+            let a = Boxed::new(alloc, a)?;
+            let size = joined(0, size);
+            match cell_for(at, compound, wanted, expr, size) {
+                Some(cell) => {
+                    drop(a);
+                    Ok((cell, size))
+                }
+                None => Ok((Expr::Un(*op, a), size)),
             }
-        },
-        Expr::Bin(op, a, b) => match cell_for(at, compound, expr) {
-            Some(cell) => Ok(cell),
-            None => {
-                let a = replaced(alloc, at, compound, a.get())?;
-                let a = Boxed::new(alloc, a)?;
-                let b = replaced(alloc, at, compound, b.get())?;
-                let b = Boxed::new(alloc, b)?;
-                Ok(Expr::Bin(*op, a, b))
+        }
+        Expr::Bin(op, a, b) => {
+            let (a, size) = replaced(alloc, at, compound, wanted, a.get())?;
+            let a = Boxed::new(alloc, a)?;
+            let (b, more) = replaced(alloc, at, compound, wanted, b.get())?;
+            let b = Boxed::new(alloc, b)?;
+            let size = joined(size, more);
+            match cell_for(at, compound, wanted, expr, size) {
+                Some(cell) => {
+                    drop(a);
+                    drop(b);
+                    Ok((cell, size))
+                }
+                None => Ok((Expr::Bin(*op, a, b), size)),
             }
-        },
-        Expr::Select(c, a, b) => match cell_for(at, compound, expr) {
-            Some(cell) => Ok(cell),
-            None => {
-                let c = replaced(alloc, at, compound, c.get())?;
-                let c = Boxed::new(alloc, c)?;
-                let a = replaced(alloc, at, compound, a.get())?;
-                let a = Boxed::new(alloc, a)?;
-                let b = replaced(alloc, at, compound, b.get())?;
-                let b = Boxed::new(alloc, b)?;
-                Ok(Expr::Select(c, a, b))
+        }
+        Expr::Select(c, a, b) => {
+            let (c, size) = replaced(alloc, at, compound, wanted, c.get())?;
+            let c = Boxed::new(alloc, c)?;
+            let (a, more) = replaced(alloc, at, compound, wanted, a.get())?;
+            let a = Boxed::new(alloc, a)?;
+            let (b, most) = replaced(alloc, at, compound, wanted, b.get())?;
+            let b = Boxed::new(alloc, b)?;
+            let size = joined(size, joined(more, most));
+            match cell_for(at, compound, wanted, expr, size) {
+                Some(cell) => {
+                    drop(c);
+                    drop(a);
+                    drop(b);
+                    Ok((cell, size))
+                }
+                None => Ok((Expr::Select(c, a, b), size)),
             }
-        },
-        Expr::Cast(ty, a) => match cell_for(at, compound, expr) {
-            Some(cell) => Ok(cell),
-            None => {
-                let a = replaced(alloc, at, compound, a.get())?;
-                Ok(Expr::Cast(*ty, Boxed::new(alloc, a)?))
+        }
+        Expr::Cast(ty, a) => {
+            let (a, size) = replaced(alloc, at, compound, wanted, a.get())?;
+            let a = Boxed::new(alloc, a)?;
+            let size = joined(0, size);
+            match cell_for(at, compound, wanted, expr, size) {
+                Some(cell) => {
+                    drop(a);
+                    Ok((cell, size))
+                }
+                None => Ok((Expr::Cast(*ty, a), size)),
             }
-        },
+        }
     }
 }

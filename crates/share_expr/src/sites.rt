@@ -76,7 +76,8 @@ pub(crate) fn first_site(
 ) -> Result<Option<(u32, &Expr)>, NoMemory>
     requires few { length tensors.now < 2 ^ 32 }
     requires dims { (d : ℕ) × (have_dims d (map plain_tensor tensors.now) ≡ true) }
-    ensures { IfOk result (λ found. MatchOption found (first_shared (sites_from 0 (map plain_tensor tensors.now)) ≡ None)
+    ensures { IfOk result (λ found. MatchOption found
+        (first_shared (sites_from 0 (map plain_tensor tensors.now)) ≡ None)
         (λ s. first_shared (sites_from 0 (map plain_tensor tensors.now)) ≡ Some (site s.0 (formula_of s.1.now)))) }
 {
     let counts = counted(alloc, tensors)?;

@@ -6,6 +6,7 @@ ghost use Rattle.share_shape.specs.Compounds.{site};
 ghost use Rattle.share_shape.specs.Procedure.{is_used, next_shared, replaced, replaced_in, share_number, shared_at};
 ghost use Rattle.share_shape.specs.Shifts.{has_cell};
 ghost use Rattle.share_expr.specs.Marks.{have_dims};
+ghost use Rattle.share_expr.specs.Sizes.{size};
 ghost use Rattle.share_expr.specs.Working.{names_with, with_tensors};
 
 use crate::NoMemory;
@@ -13,23 +14,27 @@ use crate::local::local_for;
 use crate::names::unused_number;
 use crate::replaced::replaced;
 use crate::sites::first_site;
+use crate::sizes::size;
 use soda_ir::{Expr, Parts, Tensor};
 use sqlite_items::Items;
 use std::alloc::Global;
 
-// The formula of a tensor, if it has one, with the compounds replaced that are shift-equal to one.
+// The formula of a tensor, if it has one, with the compounds replaced that are shift-equal to one of this
+// size.
 fn replaced_formula(
     alloc: Global,
     at: u32,
     compound: &Expr,
+    wanted: u64,
     formula: &Option<Expr>,
 ) -> Result<Option<Expr>, NoMemory>
-    requires { has_cell (formula_of compound.now) ≡ true }
+    requires cell { has_cell (formula_of compound.now) ≡ true }
+    requires wanted { wanted ≡ size (formula_of compound.now) }
     ensures { IfOk result (λ f. option_map formula_of f
         ≡ option_map (replaced at (formula_of compound.now)) (option_map formula_of formula.now)) }
 {
     match formula {
-        Some(expr) => Ok(Some(replaced(alloc, at, compound, expr)?)),
+        Some(expr) => Ok(Some(replaced(alloc, at, compound, wanted, expr)?.0)),
         None => Ok(None),
     }
 }
@@ -39,13 +44,15 @@ fn replaced_tensor(
     alloc: Global,
     at: u32,
     compound: &Expr,
+    wanted: u64,
     tensor: &Tensor,
 ) -> Result<Tensor, NoMemory>
-    requires { has_cell (formula_of compound.now) ≡ true }
+    requires cell { has_cell (formula_of compound.now) ≡ true }
+    requires wanted { wanted ≡ size (formula_of compound.now) }
     ensures { IfOk result (λ t. plain_tensor t ≡ replaced_in at (formula_of compound.now) (plain_tensor tensor.now)) }
 {
     let name = Items::from_slice(alloc, tensor.name.as_slice())?;
-    let formula = replaced_formula(alloc, at, compound, &tensor.formula)?;
+    let formula = replaced_formula(alloc, at, compound, wanted, &tensor.formula)?;
     Ok(Tensor {
         name,
         ty: tensor.ty,
@@ -65,9 +72,10 @@ fn replaced_tensors(
     ensures { IfOk result (λ ts. map plain_tensor ts.items
         ≡ map (replaced_in at (formula_of compound.now)) (map plain_tensor tensors.now)) }
 {
+    let wanted = size(compound);
     let mut made = Vec::new(alloc);
     for tensor in tensors {
-        made.push(replaced_tensor(alloc, at, compound, tensor)?)?;
+        made.push(replaced_tensor(alloc, at, compound, wanted, tensor)?)?;
     }
     Ok(made)
 }
