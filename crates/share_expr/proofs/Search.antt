@@ -11,22 +11,24 @@ use Rattle.share_shape.specs.Counts.{tensor_hits, total}
 use Rattle.share_shape.specs.Compounds.{counted_before}
 use Rattle.share_shape.specs.Shifts.{has_cell}
 use Rattle.share_expr.specs.Search.{first_passing, is_twice}
+pub use Rattle.soda_ir.proofs.CallerLemmas.{levels}
 
 append_by : (test : Formula → Bool) (f : Formula) (xs ys : List Formula) (b : Bool) → first_passing test (xs ++ ys) ≡ or_else (first_passing test xs) (first_passing test ys) → (if b then Some f else first_passing test (xs ++ ys)) ≡ or_else (if b then Some f else first_passing test xs) (first_passing test ys)
 append_by test f xs ys true h = refl
 append_by test f xs ys false h = h
 
-pub passing_append : (test : Formula → Bool) (xs ys : List Formula) → first_passing test (xs ++ ys) ≡ or_else (first_passing test xs) (first_passing test ys)
-passing_append test [] ys = refl
-passing_append test (x ∷ xs) ys = append_by test x xs ys (test x) (passing_append test xs ys)
+-- the first of two lists
+pub append : (test : Formula → Bool) (xs ys : List Formula) → first_passing test (xs ++ ys) ≡ or_else (first_passing test xs) (first_passing test ys)
+append test [] ys = refl
+append test (x ∷ xs) ys = append_by test x xs ys (test x) (append test xs ys)
 
 -- a formula itself, and then its parts
 itself_by : (test : Formula → Bool) (f : Formula) (fs : List Formula) (b : Bool) → first_passing test (if b then f ∷ fs else fs) ≡ (if b && test f then Some f else first_passing test fs)
 itself_by test f fs true = refl
 itself_by test f fs false = refl
 
-pub passing_itself : (test : Formula → Bool) (f : Formula) (fs : List Formula) → first_passing test (counted_before f fs) ≡ (if has_cell f && test f then Some f else first_passing test fs)
-passing_itself test f fs = itself_by test f fs (has_cell f)
+pub itself : (test : Formula → Bool) (f : Formula) (fs : List Formula) → first_passing test (counted_before f fs) ≡ (if has_cell f && test f then Some f else first_passing test fs)
+itself test f fs = itself_by test f fs (has_cell f)
 
 total_append : (h : PlainTensor → ℕ) (xs ys : List PlainTensor) → total h (xs ++ ys) ≡ total h xs + total h ys
 total_append h [] ys = omega arith

@@ -15,7 +15,7 @@ use Rattle.share_expr.specs.Marks.{first_of, have_dims, is_repeated, mark, mark_
 use Rattle.share_expr.specs.Search.{first_passing, is_twice, site_passing}
 use Rattle.share_expr.proofs.Alike.{same_mark}
 use Rattle.share_expr.proofs.Found.{search_exact}
-use Rattle.share_expr.proofs.Search.{passing_itself}
+use Rattle.share_expr.proofs.Search.{itself}
 
 either_some : (x y : Option (List ℤ)) (a b : Bool) → is_some x ≡ not a → is_some y ≡ not b → is_some (or_else x y) ≡ not (a && b)
 either_some None y true b e f = f
@@ -40,9 +40,9 @@ first_known (choice c a b) =
     ∙ ap not (regrouped (every (λ t o. false) c) (every (λ t o. false) a) (every (λ t o. false) b))
 first_known (cast t a) = first_known a
 
-pub passing_marked : (test : Formula → Bool) (f : Formula) (fs : List Formula) → first_passing test (counted_before f fs) ≡ (if is_some (first_of f) && test f then Some f else first_passing test fs)
-passing_marked test f fs =
-    passing_itself test f fs ∙ ap (λ b. if b && test f then Some f else first_passing test fs) (sym (first_known f))
+pub marked : (test : Formula → Bool) (f : Formula) (fs : List Formula) → first_passing test (counted_before f fs) ≡ (if is_some (first_of f) && test f then Some f else first_passing test fs)
+marked test f fs =
+    itself test f fs ∙ ap (λ b. if b && test f then Some f else first_passing test fs) (sym (first_known f))
 
 -- a formula itself, where its mark was counted twice, and else what was found in it
 pub found_here : (count : ℕ → ℕ) (f : Formula) (fs : List Formula) (m : ℕ) (first : Option (List ℤ)) (wanted : Bool) (inside r : Option Formula)
@@ -51,7 +51,7 @@ pub found_here : (count : ℕ → ℕ) (f : Formula) (fs : List Formula) (m : �
 found_here count f fs m first wanted inside r a b w h e =
     e ∙ ap (λ x. if x then Some f else inside) w ∙ ap (λ o. if is_some o && nat_le 2 (count m) then Some f else inside) b
     ∙ ap (λ n. if is_some (first_of f) && nat_le 2 (count n) then Some f else inside) a
-    ∙ ap (λ o. if is_some (first_of f) && is_repeated count f then Some f else o) h ∙ sym (passing_marked (is_repeated count) f fs)
+    ∙ ap (λ o. if is_some (first_of f) && is_repeated count f then Some f else o) h ∙ sym (marked (is_repeated count) f fs)
 
 module _ (d : ℕ) (c : Formula) (cell : has_cell c ≡ true) (dims : has_dims d c ≡ true) where
   hit_by : (g : Formula) (b : Bool) → has_dims d g ≡ true → are_shift_equal c g ≡ b → one b ≤ mark_hit (mark c) g

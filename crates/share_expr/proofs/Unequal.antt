@@ -6,6 +6,8 @@ use Rattle.soda_ir.specs.Formula.{Formula, number, read, param, unary, binary, c
 use Rattle.share_shape.specs.Shifts.{are_shift_equal, first_offset, shifted}
 use Rattle.share_shape.proofs.CallerLemmas.{one_base}
 use Rattle.share_expr.specs.Sizes.{joined, size}
+pub use Rattle.soda_ir.proofs.CallerLemmas.{levels}
+pub use Rattle.share_shape.proofs.CallerLemmas.{no_hit}
 
 size_shifted : (v : List ℤ) (f : Formula) → size (shifted v f) ≡ size f
 size_shifted v (number n) = refl

@@ -130,7 +130,7 @@ fn is_shared(expr: &Expr, tensors: &[Tensor]) -> bool
 
 /// The first compound of a formula that stands twice in these tensors' formulas: from the outside in, and from left to
 /// right.
-#[tactic(auto, using(soda_ir::proofs::CallerLemmas::levels, crate::proofs::Search::passing_append, crate::proofs::Search::passing_itself))]
+#[tactic(auto, using(crate::proofs::Search::levels, crate::proofs::Search::append, crate::proofs::Search::itself))]
 pub(crate) fn first_twice<'a>(expr: &'a Expr, tensors: &[Tensor]) -> Option<&'a Expr>
     ensures { option_map (λ c. formula_of c.now) result
         ≡ first_passing (is_twice (map plain_tensor tensors.now)) (compounds (formula_of expr.now)) }

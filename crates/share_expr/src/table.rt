@@ -113,7 +113,7 @@ fn first<'a>(a: Option<&'a Expr>, b: Option<&'a Expr>) -> Option<&'a Expr>
 }
 
 /// A formula's mark, and its first compound whose mark was counted twice: from the outside in, and from left to right.
-#[tactic(auto, using(soda_ir::proofs::CallerLemmas::levels, crate::proofs::Search::passing_append, crate::proofs::Tables::passing_marked))]
+#[tactic(auto, using(crate::proofs::Search::levels, crate::proofs::Search::append, crate::proofs::Tables::marked))]
 pub(crate) fn candidate<'a>(
     expr: &'a Expr,
     counts: &HashMap<u64, u64>,

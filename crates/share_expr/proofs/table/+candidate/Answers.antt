@@ -7,7 +7,7 @@ use Rattle.soda_ir.proofs.CallerLemmas.{levels}
 use Rattle.share_shape.specs.Compounds.{compounds, counted_before}
 use Rattle.share_expr.specs.Marks.{first_of, is_repeated, mark}
 use Rattle.share_expr.specs.Search.{first_passing}
-use Rattle.share_expr.proofs.Search.{passing_append}
+use Rattle.share_expr.proofs.Search.{append}
 use Rattle.share_expr.proofs.Tables.{found_here}
 use Rattle.share_expr.proofs.table.+candidate.Goals as goal
 
@@ -28,7 +28,7 @@ returns-in-Bin-clause-found t c =
     let e : f ≡ binary c.in-Bin.op (formula_of c.get-in-Bin.result.now) (formula_of c.get-in-Bin-2.result.now) = grind (arith, levels) in
     let m : c.of_binary-marked.result.mark ≡ mark f = grind (arith, levels) in
     let o : option_map (λ (w : Bor (ArrayVec ℤ)). w.now.items) c.of_binary-marked.result.first ≡ first_of f = grind (arith, levels) in
-    found_here count f (compounds (formula_of c.get-in-Bin.result.now) ++ compounds (formula_of c.get-in-Bin-2.result.now)) c.of_binary-marked.result.mark _ c.is_repeated-in-Bin.result _ _ m o c.is_repeated-in-Bin.ensures (grind (arith, passing_append)) c.chosen-found-in-Bin.ensures
+    found_here count f (compounds (formula_of c.get-in-Bin.result.now) ++ compounds (formula_of c.get-in-Bin-2.result.now)) c.of_binary-marked.result.mark _ c.is_repeated-in-Bin.result _ _ m o c.is_repeated-in-Bin.ensures (grind (arith, append)) c.chosen-found-in-Bin.ensures
     ∙ ap (first_passing (is_repeated count)) (ap (λ g. counted_before g (compounds (formula_of c.get-in-Bin.result.now) ++ compounds (formula_of c.get-in-Bin-2.result.now))) e ∙ sym (ap compounds e))
 
 pub returns-in-Select-clause-found : goal.returns-in-Select-clause-found
@@ -38,7 +38,7 @@ returns-in-Select-clause-found t c =
     let e : f ≡ choice (formula_of c.get-in-Select.result.now) (formula_of c.get-in-Select-2.result.now) (formula_of c.get-in-Select-3.result.now) = grind (arith, levels) in
     let m : c.of_choice-marked.result.mark ≡ mark f = grind (arith, levels) in
     let o : option_map (λ (w : Bor (ArrayVec ℤ)). w.now.items) c.of_choice-marked.result.first ≡ first_of f = grind (arith, levels) in
-    found_here count f (compounds (formula_of c.get-in-Select.result.now) ++ (compounds (formula_of c.get-in-Select-2.result.now) ++ compounds (formula_of c.get-in-Select-3.result.now))) c.of_choice-marked.result.mark _ c.is_repeated-in-Select.result _ _ m o c.is_repeated-in-Select.ensures (grind (arith, passing_append)) c.chosen-found-in-Select.ensures
+    found_here count f (compounds (formula_of c.get-in-Select.result.now) ++ (compounds (formula_of c.get-in-Select-2.result.now) ++ compounds (formula_of c.get-in-Select-3.result.now))) c.of_choice-marked.result.mark _ c.is_repeated-in-Select.result _ _ m o c.is_repeated-in-Select.ensures (grind (arith, append)) c.chosen-found-in-Select.ensures
     ∙ ap (first_passing (is_repeated count)) (ap (λ g. counted_before g (compounds (formula_of c.get-in-Select.result.now) ++ (compounds (formula_of c.get-in-Select-2.result.now) ++ compounds (formula_of c.get-in-Select-3.result.now)))) e ∙ sym (ap compounds e))
 
 pub returns-in-Cast-clause-found : goal.returns-in-Cast-clause-found
