@@ -4,10 +4,9 @@ use Rattle.std.specs.Prelude.{neg_ℤ}
 use Rattle.std.proofs.lemmas.Bool.{false≢true}
 use Rattle.soda_ir.specs.Formula.{Formula, number, read, param, unary, binary, choice, cast}
 use Rattle.share_shape.specs.Shifts.{are_shift_equal, first_offset, shifted}
-use Rattle.share_shape.proofs.CallerLemmas.{one_base}
+use Rattle.share_shape.proofs.CallerLemmas.{no_hit, one_base}
 use Rattle.share_expr.specs.Sizes.{joined, size}
-pub use Rattle.soda_ir.proofs.CallerLemmas.{levels}
-pub use Rattle.share_shape.proofs.CallerLemmas.{no_hit}
+use Rattle.soda_ir.proofs.CallerLemmas.{levels}
 
 size_shifted : (v : List ℤ) (f : Formula) → size (shifted v f) ≡ size f
 size_shifted v (number n) = refl
@@ -32,3 +31,5 @@ unequal_by f g false e h = refl
 -- formulas of two sizes are not shift-equal
 pub unequal : (f g : Formula) → (size f ≡ size g → ⊥) → are_shift_equal f g ≡ false
 unequal f g h = unequal_by f g (are_shift_equal f g) refl h
+
+pub ruleset told_apart = (levels, no_hit, unequal)

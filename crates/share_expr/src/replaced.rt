@@ -79,7 +79,7 @@ pub(crate) fn local_formula(
 
 // The cell of the local at a number that stands for a formula, where it is shift-equal to the local's compound. Each has
 // a size.
-#[tactic(auto, using(crate::proofs::Unequal::levels, crate::proofs::Unequal::no_hit, crate::proofs::Unequal::unequal))]
+#[tactic(auto, using(crate::proofs::Unequal::told_apart))]
 fn cell_for(at: u32, compound: &Expr, wanted: u64, expr: &Expr, own: u64) -> Option<Expr>
     requires cell { has_cell (formula_of compound.now) ≡ true }
     requires wanted { wanted ≡ size (formula_of compound.now) }
