@@ -77,8 +77,8 @@ pub(crate) fn local_formula(
     }
 }
 
-// The cell of the local at a number that stands for a formula, where it is shift-equal to the local's compound. Each has
-// a size.
+// The cell of the local at a number that stands for a formula, where it is shift-equal to the local's compound. Each
+// has a size.
 #[tactic(auto, using(crate::proofs::Unequal::told_apart))]
 fn cell_for(at: u32, compound: &Expr, wanted: u64, expr: &Expr, own: u64) -> Option<Expr>
     requires cell { has_cell (formula_of compound.now) ≡ true }
