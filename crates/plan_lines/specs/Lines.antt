@@ -10,17 +10,20 @@ use Rattle.soda_print.specs.Canonical.{tensor_name, type_text}
 use Rattle.time_stages.specs.declared.staging.StagedTensor.{StagedTensor}
 use Rattle.time_stages.specs.Staged.{staged_reads, staged_tensors, staged_widths, type_of}
 
--- what follows the name in the line of a tensor: its iteration, its type, its delay, and its storage in cells
-abbrev pub behind_name : (turn : ℕ) → IntType → (delay storage : ℕ) → List ℕ
-behind_name turn ty delay storage =
-    codes "@" ++ (decimal turn ++ (codes " " ++ (type_text ty ++ (codes " delay " ++ (decimal delay
-    ++ (codes " storage " ++ decimal storage))))))
+-- what stands between the name and the delay in the line of a tensor: its iteration and its type
+abbrev pub behind_name : (turn : ℕ) → IntType → List ℕ
+behind_name turn ty = codes "@" ++ (decimal turn ++ (codes " " ++ (type_text ty ++ codes " delay ")))
 
--- the line of the staged tensor of this number, with its delay and its storage
+-- what stands before the delay in the line of the staged tensor of this number
+abbrev pub tensor_front : PlainProgram → (number : ℕ) → StagedTensor → List ℕ
+tensor_front p number s =
+    (codes "tensor " ++ (decimal number ++ codes " "))
+    ++ (tensor_name p s.tensor ++ behind_name s.turn (type_of p s.tensor))
+
+-- that line, with its delay and its storage in cells
 abbrev pub tensor_line : PlainProgram → (number : ℕ) → StagedTensor → (delay storage : ℕ) → List ℕ
 tensor_line p number s delay storage =
-    (codes "tensor " ++ (decimal number ++ codes " "))
-    ++ (tensor_name p s.tensor ++ behind_name s.turn (type_of p s.tensor) delay storage)
+    tensor_front p number s ++ (decimal delay ++ (codes " storage " ++ decimal storage))
 
 -- what a read is, with its number: the numbers of its reader and of what it reads, and its offset
 abbrev pub read_words : (number : ℕ) → Read → List ℕ
@@ -28,14 +31,13 @@ read_words number r =
     codes "read " ++ (decimal number ++ (codes " reader " ++ (decimal r.reader ++ (codes " of " ++ (decimal r.of
     ++ (codes " offset " ++ signed_decimal r.offset))))))
 
--- its age, and what the certificate has for it
-abbrev pub age_words : (age hold need : ℕ) → List ℕ
-age_words age hold need =
-    codes " age " ++ (decimal age ++ (codes " hold " ++ (decimal hold ++ (codes " need " ++ decimal need))))
+-- what stands before the hold in the line of the read of this number
+abbrev pub read_front : (number : ℕ) → Read → (age : ℕ) → List ℕ
+read_front number r age = read_words number r ++ (codes " age " ++ (decimal age ++ codes " hold "))
 
--- the line of the read of this number
+-- that line, with what the certificate has for it
 abbrev pub read_line : (number : ℕ) → Read → (age hold need : ℕ) → List ℕ
-read_line number r age hold need = read_words number r ++ age_words age hold need
+read_line number r age hold need = read_front number r age ++ (decimal hold ++ (codes " need " ++ decimal need))
 
 -- the line of the total storage in bits
 abbrev pub total_line : ℕ → List ℕ

@@ -5,5 +5,6 @@ mod lines;
 mod text;
 
 pub use lines::add_plan_lines;
+pub use text::{add_read_front, add_tensor_front, total_line};
 /// Want of memory.
 pub use std::alloc::AllocError as NoMemory;

@@ -3,7 +3,7 @@ ghost use Rattle.std.specs.Fmt.{decimal};
 ghost use Rattle.soda_ir.specs.Program.{plain};
 ghost use Rattle.soda_print.specs.Canonical.{tensor_name, type_text};
 ghost use Rattle.time_stages.specs.Staged.{type_of};
-ghost use Rattle.plan_lines.specs.Lines.{age_words, behind_name, read_line, read_words, tensor_line, total_line};
+ghost use Rattle.plan_lines.specs.Lines.{behind_name, read_front, read_line, read_words, tensor_front, tensor_line, total_line};
 
 use crate::NoMemory;
 use delay_net::Read;
@@ -60,18 +60,12 @@ fn before_name(alloc: Global, number: usize) -> Result<String, NoMemory>
     format!(in alloc; "tensor {number} ")
 }
 
-// What follows the name.
-fn behind_name(
-    alloc: Global,
-    turn: u32,
-    ty: Ty,
-    delay: u64,
-    storage: u64,
-) -> Result<String, NoMemory>
-    ensures { IfOk result (λ text. string_bytes text ≡ behind_name turn ty delay storage) }
+// What stands between the name and the delay.
+fn behind_name(alloc: Global, turn: u32, ty: Ty) -> Result<String, NoMemory>
+    ensures { IfOk result (λ text. string_bytes text ≡ behind_name turn ty) }
 {
     let ty = type_word(alloc, ty)?;
-    format!(in alloc; "@{turn} {ty} delay {delay} storage {storage}")
+    format!(in alloc; "@{turn} {ty} delay ")
 }
 
 // What a read is, with its number.
@@ -84,15 +78,64 @@ fn read_words(alloc: Global, number: usize, read: Read) -> Result<String, NoMemo
     format!(in alloc; "read {number} reader {reader} of {of} offset {offset}")
 }
 
-// Its age, and what the certificate has for it.
-fn age_words(alloc: Global, age: u64, hold: u32, need: u32) -> Result<String, NoMemory>
-    ensures { IfOk result (λ text. string_bytes text ≡ age_words age hold need) }
+// Its age.
+fn age_words(alloc: Global, age: u64) -> Result<String, NoMemory>
+    ensures { IfOk result (λ text. string_bytes text ≡ codes " age " ++ (decimal age ++ codes " hold ")) }
 {
-    format!(in alloc; " age {age} hold {hold} need {need}")
+    format!(in alloc; " age {age} hold ")
 }
 
-// The line of the total storage.
-fn total_line(alloc: Global, bits: u128) -> Result<String, NoMemory>
+// What the certificate has for it.
+fn amount_words(alloc: Global, hold: u32, need: u32) -> Result<String, NoMemory>
+    ensures { IfOk result (λ text. string_bytes text ≡ decimal hold ++ (codes " need " ++ decimal need)) }
+{
+    format!(in alloc; "{hold} need {need}")
+}
+
+// A delay and a storage in cells.
+fn storage_words(alloc: Global, delay: u64, storage: u64) -> Result<String, NoMemory>
+    ensures { IfOk result (λ text. string_bytes text ≡ decimal delay ++ (codes " storage " ++ decimal storage)) }
+{
+    format!(in alloc; "{delay} storage {storage}")
+}
+
+/// Adds what stands before the delay in the line of the staged tensor of this number.
+#[tactic(auto, using(crate::proofs::Written::appended))]
+pub fn add_tensor_front(
+    alloc: Global,
+    text: &mut Vec<u8>,
+    parts: &Parts,
+    number: usize,
+    staged: &StagedTensor,
+) -> Result<(), NoMemory>
+    ensures { OnOk result (text.new.items ≡ text.old.items ++ tensor_front (plain parts.now) number staged.now) }
+{
+    let before = before_name(alloc, number)?;
+    add(text, before.as_bytes())?;
+    add_name(text, parts, staged.tensor)?;
+    let behind = behind_name(alloc, staged.turn, type_of(parts, staged.tensor))?;
+    add(text, behind.as_bytes())
+}
+
+/// Adds what stands before the hold in the line of the read of this number, with its age in cells.
+#[tactic(auto, using(crate::proofs::Written::appended))]
+pub fn add_read_front(
+    alloc: Global,
+    text: &mut Vec<u8>,
+    number: usize,
+    read: Read,
+    age: u64,
+) -> Result<(), NoMemory>
+    ensures { OnOk result (text.new.items ≡ text.old.items ++ read_front number read age) }
+{
+    let words = read_words(alloc, number, read)?;
+    add(text, words.as_bytes())?;
+    let age = age_words(alloc, age)?;
+    add(text, age.as_bytes())
+}
+
+/// The line of the total storage in bits.
+pub fn total_line(alloc: Global, bits: u128) -> Result<String, NoMemory>
     ensures { IfOk result (λ text. string_bytes text ≡ total_line bits) }
 {
     format!(in alloc; "total bits {bits}")
@@ -121,12 +164,9 @@ pub(crate) fn add_tensor(
     ensures { OnOk result (text.new.items
         ≡ text.old.items ++ (tensor_line (plain parts.now) number staged.now delay storage ++ codes "\n")) }
 {
-    let before = before_name(alloc, number)?;
-    add(text, before.as_bytes())?;
-    add_name(text, parts, staged.tensor)?;
-    let ty = type_of(parts, staged.tensor);
-    let behind = behind_name(alloc, staged.turn, ty, delay, storage)?;
-    add_line(text, behind.as_bytes())
+    add_tensor_front(alloc, text, parts, number, staged)?;
+    let numbers = storage_words(alloc, delay, storage)?;
+    add_line(text, numbers.as_bytes())
 }
 
 /// Adds the line of the read of this number, with its age in cells and the hold and the need of it.
@@ -143,10 +183,9 @@ pub(crate) fn add_read(
     ensures { OnOk result (text.new.items
         ≡ text.old.items ++ (read_line number read age hold need ++ codes "\n")) }
 {
-    let words = read_words(alloc, number, read)?;
-    add(text, words.as_bytes())?;
-    let rest = age_words(alloc, age, hold, need)?;
-    add_line(text, rest.as_bytes())
+    add_read_front(alloc, text, number, read, age)?;
+    let amounts = amount_words(alloc, hold, need)?;
+    add_line(text, amounts.as_bytes())
 }
 
 /// Adds the line of the total storage in bits.

@@ -1,0 +1,14 @@
+//! The lines of the text of a design, a function for each kind: written, and read back.
+#![tactic(auto)]
+
+mod cursor;
+mod lines;
+mod told;
+
+pub use cursor::{Pair, Told, behind, behind_line, number_behind, two_behind};
+pub use lines::{
+    add_line, add_module, add_modules, add_program, add_queue, add_queues, line_count,
+};
+/// Want of memory.
+pub use std::alloc::AllocError as NoMemory;
+pub use told::{Amounts, read_told, tensor_told};
