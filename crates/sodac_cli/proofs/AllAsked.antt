@@ -10,16 +10,17 @@ use Rattle.job_files.specs.Files.{HasRole, created_of}
 use Rattle.job_files.specs.Progress.{Progress, Stuck, created}
 use Rattle.job_files.proofs.CallerLemmas.{created_names, created_until}
 use Rattle.command_words.specs.Orders.{Asked}
-use Rattle.sodac_cli.specs.declared.status.Status.{Status}
-use Rattle.sodac_cli.specs.declared.status.Status.TheVariants as is
+use Rattle.job_status.specs.declared.status.Status.{Status}
+use Rattle.job_status.specs.declared.status.Status.TheVariants as is
 use Rattle.sodac_cli.specs.Correct.{Runs}
 use Rattle.sodac_cli.specs.Due.{DueOver, MayAsk, accepted, asks_arrays, good_params}
-use Rattle.sodac_cli.specs.Endings.{ReadsFew, due, ending_of, opened_count}
+use Rattle.job_status.specs.Endings.{due, ending_of}
+use Rattle.sodac_cli.specs.Journal.{ReadsFew, opened_count}
 use Rattle.sodac_cli.specs.Machine.Steps.{IsJudged}
 use Rattle.sodac_cli.specs.Outputs.{AreOutputs, Delivers, Leaves}
 use Rattle.sodac_cli.specs.Work.{HasParams, files_of, output_names, text_count}
 use Rattle.sodac_cli.proofs.Begun.{due_with, runs_due, runs_fault, runs_memory}
-use Rattle.sodac_cli.proofs.Numbered.{created_files}
+use Rattle.sodac_cli.proofs.Numbered.{created_files, texts_counted}
 
 -- its outputs hold these bytes
 module _ (first : ℕ) (begun : Store) (a : Asked) (p : PlainProgram) (values : List ℤ) (judged : IsJudged begun.bytes a p)
@@ -64,5 +65,5 @@ module _ (first : ℕ) (begun : Store) (a : Asked) (p : PlainProgram) (values : 
           few = few;
           all = all;
           program = λ ne. omega (arith, some);
-          texts = λ ne also. omega (arith, some);
+          texts = λ ne also. omega (arith, some, texts_counted a p);
         }) delivered

@@ -1,5 +1,5 @@
 -- What ends the run of a job that is built.
-use Rattle.std.proofs.Common.{◌≡◌, ℕ, zero, suc, Bool, true, false, List, [], ◌∷◌, ◌++◌, length, take, Option, Some, None, if◌then◌else◌, refl, sym, subst, ◌∙◌, inl}
+use Rattle.std.proofs.Common.{◌≡◌, ℕ, zero, suc, Bool, true, false, List, [], ◌∷◌, ◌++◌, length, take, Some, None, if◌then◌else◌, refl, sym, ap, subst, ◌∙◌, inl}
 use Rattle.soda_io.specs.declared.call.FileCall.{FileCall}
 use Rattle.soda_io.specs.declared.role.FileRole.{FileRole}
 use Rattle.soda_io.specs.Store.{KeepsBytes, Store}
@@ -9,13 +9,14 @@ use Rattle.job_files.specs.Files.{HasRole, JobFile, created_of}
 use Rattle.job_files.specs.Progress.{Progress, Stuck, created}
 use Rattle.job_files.proofs.CallerLemmas.{created_names, created_until, holds_kept, holds_none}
 use Rattle.command_words.specs.Orders.{Asked}
-use Rattle.sodac_cli.specs.declared.status.Status.{Status}
-use Rattle.sodac_cli.specs.declared.status.Status.TheVariants as is
+use Rattle.job_status.specs.declared.status.Status.{Status}
+use Rattle.job_status.specs.declared.status.Status.TheVariants as is
 use Rattle.sodac_cli.specs.Correct.{Runs}
-use Rattle.sodac_cli.specs.Due.{DueAfter, DueBehind, DueBy, DueFor, DueIf, DueOf, DueWith, MayAsk, MayAskFor, MayAskIf, refusal_of}
-use Rattle.sodac_cli.specs.Endings.{AsksAll, AsksBy, Ending, ReadsFew, due, ending_of}
+use Rattle.sodac_cli.specs.Due.{DueBehind, DueBy, DueFor, DueIf, DueOf, DueWith, MayAsk, MayAskFor, MayAskIf, RefusalOf}
+use Rattle.job_status.specs.Endings.{Ending, due, ending_of, out_fault}
+use Rattle.sodac_cli.specs.Journal.{AsksAll, AsksBy, ReadsFew}
 use Rattle.sodac_cli.specs.Outputs.{Delivers, Leaves}
-use Rattle.sodac_cli.specs.Work.{is_built, program_file, writes_arrays}
+use Rattle.sodac_cli.specs.Work.{Product, array_files, is_built, makes, module_file, modules_file, no_files, program_file}
 
 -- what is stated by whether a job is built, at one that is
 module _ (h : Holding) (a : Asked) (built : is_built a ≡ true) where
@@ -25,22 +26,24 @@ module _ (h : Holding) (a : Asked) (built : is_built a ≡ true) where
   pub may_built : (made : List JobFile) → MayAsk h a made → MayAskFor h (Some a) made
   may_built made m = let P : Bool → Type 0 = λ b. MayAskIf b h a made in subst P (sym built) m
 
--- what is due of an accepted program, by whether a step refuses it and whether the mode writes arrays
+-- what is due of an accepted program, by whether a step refuses it and by what the mode writes
 module _ (h : Holding) (a : Asked) (p : PlainProgram) (files : List JobFile) (status : Status) where
-  behind : refusal_of a p ≡ None → (writes : Bool) → writes_arrays a.mode ≡ writes → DueBy writes h a p files status → DueBehind h a p files status
-  behind none writes same d =
-      let P : Option Status → Type 0 = λ r. DueAfter r h a p files status in
-      let Q : Bool → Type 0 = λ b. DueBy b h a p files status in
-      subst P (sym none) (subst Q (sym same) d)
+  behind : RefusalOf a p None → (m : Product) → makes a.mode ≡ m → DueBy m h a p files status → DueBehind h a p files status
+  behind none m same d =
+      let P : Product → Type 0 = λ b. DueBy b h a p files status in
+      (None, none, subst P (sym same) d)
 
-  pub due_with : refusal_of a p ≡ None → writes_arrays a.mode ≡ true → DueWith h a p files status → DueBehind h a p files status
-  due_with none writes d = behind none true writes d
+  pub due_with : RefusalOf a p None → makes a.mode ≡ array_files → DueWith h a p files status → DueBehind h a p files status
+  due_with none writes d = behind none array_files writes d
 
-  pub due_done : refusal_of a p ≡ None → writes_arrays a.mode ≡ false → files ≡ program_file a ∷ [] → status ≡ is.Ok → DueBehind h a p files status
-  due_done none writes all ok = behind none false writes (all, ok)
+  pub due_done : RefusalOf a p None → makes a.mode ≡ no_files → files ≡ program_file a ∷ [] → status ≡ is.Ok → DueBehind h a p files status
+  due_done none writes all ok = behind none no_files writes (all, ok)
 
-  pub due_refused : refusal_of a p ≡ Some status → files ≡ program_file a ∷ [] → DueBehind h a p files status
-  due_refused some all = let P : Option Status → Type 0 = λ r. DueAfter r h a p files status in subst P (sym some) (all, refl)
+  pub due_file : RefusalOf a p None → makes a.mode ≡ module_file → files ≡ program_file a ∷ modules_file a ∷ [] → status ≡ is.Ok → DueBehind h a p files status
+  due_file none writes all ok = behind none module_file writes (all, ok)
+
+  pub due_refused : RefusalOf a p (Some status) → files ≡ program_file a ∷ [] → DueBehind h a p files status
+  due_refused some all = (Some status, some, (all, refl))
 
 -- where no file of a list is created, none of its first is
 pub created_none : (files : List JobFile) → created_of files ≡ [] → (count : ℕ) → created_of (take count files) ≡ []
@@ -84,6 +87,7 @@ module _ (first : ℕ) (begun : Store) (a : Asked) (given : ℕ) (now : Store) (
         journal = subst P (sym ending) (record { files = files; due = due_built begun.bytes a built files status d; asks = asks });
         files = leaves;
         delivered = delivered;
+        whole = λ e. let other : due ≡ out_fault = sym ending ∙ ap ending_of e in absurd (cc);
       }
 
   module _ (made : List JobFile) (may : MayAsk begun.bytes a made) (ended : ℕ) (places : ℕ → ℕ) (few : ReadsFew a places) where
@@ -93,6 +97,7 @@ module _ (first : ℕ) (begun : Store) (a : Asked) (given : ℕ) (now : Store) (
       journal = inl (record { made = made; may = may_built begun.bytes a built made may; ended = ended; places = places; progress = p; few = few });
       files = leaves;
       delivered = λ e. absurd (cc);
+      whole = λ e. absurd (cc);
     }
 
     -- with a fault of a file
@@ -102,4 +107,5 @@ module _ (first : ℕ) (begun : Store) (a : Asked) (given : ℕ) (now : Store) (
       journal = record { made = made; may = may_built begun.bytes a built made may; ended = ended; number = number; places = places; stuck = s; few = few; has_role = has };
       files = leaves;
       delivered = λ e. absurd (cc);
+      whole = λ e. absurd (cc);
     }

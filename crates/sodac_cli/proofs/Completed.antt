@@ -5,12 +5,13 @@ use Rattle.soda_io.specs.Store.{Store}
 use Rattle.job_files.specs.Contents.{Holding}
 use Rattle.job_files.specs.Files.{JobFile}
 use Rattle.command_words.specs.Orders.{Asked}
-use Rattle.sodac_cli.specs.declared.status.Status.{Status}
-use Rattle.sodac_cli.specs.declared.status.Status.TheVariants as is
+use Rattle.job_status.specs.declared.status.Status.{Status}
+use Rattle.job_status.specs.declared.status.Status.TheVariants as is
 use Rattle.sodac_cli.specs.Correct.{IsDueBy}
-use Rattle.sodac_cli.specs.Counts.{FileFaults, OutFaults}
+use Rattle.job_status.specs.Counts.{FileFaults, OutFaults}
 use Rattle.sodac_cli.specs.Due.{DueFor}
-use Rattle.sodac_cli.specs.Endings.{AsksBy, Ending, due, ending_of, file_fault, memory, out_fault}
+use Rattle.job_status.specs.Endings.{Ending, due, ending_of, file_fault, memory, out_fault}
+use Rattle.sodac_cli.specs.Journal.{AsksBy}
 
 -- what the journal shows is due
 pub due_of_journal : (first : ℕ) (begun : Store) (asked : Option Asked) (given : ℕ) (now : Store) (e : Ending) (s : Status)

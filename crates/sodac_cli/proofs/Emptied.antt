@@ -16,7 +16,7 @@ use Rattle.job_files.specs.declared.fail.StepFail.{StepFail}
 use Rattle.job_files.specs.declared.fail.StepFail.TheVariants as step
 use Rattle.job_files.proofs.CallerLemmas.{as_many_as_given, created_names, created_until, holds_kept, holds_none}
 use Rattle.command_words.specs.Orders.{Asked}
-use Rattle.sodac_cli.specs.declared.status.Status.TheVariants as is
+use Rattle.job_status.specs.declared.status.Status.TheVariants as is
 use Rattle.sodac_cli.specs.Correct.{Runs}
 use Rattle.sodac_cli.specs.Due.{MayAsk, asks_arrays}
 use Rattle.sodac_cli.specs.Machine.Steps.{IsGathering, IsOpened}

@@ -4,7 +4,7 @@ use Rattle.soda_words.specs.Limits.{most_text}
 use Rattle.param_lines.specs.Params.{most_params}
 use Rattle.job_files.specs.Steps.{Moves}
 use Rattle.command_words.specs.Orders.{Asked}
-use Rattle.sodac_cli.specs.Endings.{ReadsFew}
+use Rattle.sodac_cli.specs.Journal.{ReadsFew}
 use Rattle.sodac_cli.specs.Work.{if_given, text_count}
 
 -- an option that is given

@@ -16,11 +16,11 @@ use Rattle.job_files.specs.Progress.{Progress}
 use Rattle.job_files.specs.Steps.{Moves}
 use Rattle.job_files.proofs.CallerLemmas.{holds_kept, id_opened, next_unread, whole_left}
 use Rattle.command_words.specs.Orders.{Asked}
-use Rattle.sodac_cli.specs.declared.status.ArrayFault.TheVariants as of
-use Rattle.sodac_cli.specs.declared.status.Status.TheVariants as is
+use Rattle.job_status.specs.declared.status.ArrayFault.TheVariants as of
+use Rattle.job_status.specs.declared.status.Status.TheVariants as is
 use Rattle.sodac_cli.specs.Correct.{Runs}
 use Rattle.sodac_cli.specs.Due.{faulty}
-use Rattle.sodac_cli.specs.Endings.{ReadsFew}
+use Rattle.sodac_cli.specs.Journal.{ReadsFew}
 use Rattle.sodac_cli.specs.Machine.Steps.{IsGathering, IsWriting, ReadsInput, layout_of}
 use Rattle.sodac_cli.specs.Machine.Text.{unread_input}
 use Rattle.sodac_cli.specs.Outputs.{AreOutputs}

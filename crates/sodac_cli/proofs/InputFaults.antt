@@ -5,7 +5,7 @@ use Rattle.array_bytes.specs.declared.fault.CellFault.{CellFault}
 use Rattle.array_bytes.specs.declared.fault.CellFault.TheVariants as cell
 use Rattle.job_arrays.specs.Arrays.{IsOfBytes}
 use Rattle.sodac_cli.specs.Allowed.{AllowsPlain}
-use Rattle.sodac_cli.specs.Counts.{FileFaults}
+use Rattle.job_status.specs.Counts.{FileFaults}
 use Rattle.sodac_cli.specs.Machine.Text.{unread_input}
 
 -- it has its count of faults

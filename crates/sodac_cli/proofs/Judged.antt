@@ -1,5 +1,5 @@
 -- What is judged of an accepted program: how many inputs and outputs it has, the names, the limits, and what refuses it.
-use Rattle.std.proofs.Common.{◌≡◌, ℕ, suc, ◌+◌, ◌<◌, ◌≤◌, ◌==◌, Bool, true, false, not, ◌&&◌, ◌||◌, cond, List, [], ◌∷◌, ◌++◌, append_assoc, map, length, take, drop, get_or, Option, Some, None, option_map, refl, sym, ap, ◌∙◌, arith, if◌then◌else◌, nat_lt}
+use Rattle.std.proofs.Common.{◌≡◌, ℕ, suc, ◌+◌, ◌<◌, ◌≤◌, ◌==◌, Bool, true, false, not, ◌&&◌, ◌||◌, cond, List, [], ◌∷◌, ◌++◌, append_assoc, map, length, take, drop, get_or, Option, Some, None, option_map, refl, sym, ap, subst, ◌∙◌, arith, if◌then◌else◌, nat_lt}
 use Rattle.std.specs.List.{filter, list_any}
 use Rattle.std.specs.Borrow.{Bor}
 use Rattle.std.specs.Str.{bytes_eq}
@@ -7,7 +7,6 @@ use Rattle.std.proofs.lemmas.Bool.{and_parts, eq-eqb, eqb-true, ltb-false}
 use Rattle.std.proofs.lemmas.List.{drop_all, drop_more, get_or-map, length-map, take-map, take_more}
 use Rattle.soda_words.specs.IntType.{IntType}
 use Rattle.soda_words.specs.Limits.{most_cells}
-use Rattle.soda_words.specs.Tokens.{or_else}
 use Rattle.soda_ir.specs.Counts.{is_input_role, is_output_role}
 use Rattle.soda_ir.specs.Program.{PlainProgram, PlainTensor, input_types, plain_tensor}
 use Rattle.soda_ir.specs.Valid.{output_types}
@@ -18,10 +17,12 @@ use Rattle.soda_eval.specs.Runs.{cells_at}
 use Rattle.soda_parse.specs.declared.refusal.Refusal.{Refusal}
 use Rattle.soda_parse.specs.declared.refusal.Refusal.TheVariants.{Limit}
 use Rattle.job_files.specs.Files.{names_of}
+use Rattle.command_words.specs.declared.mode.Mode.{Mode}
 use Rattle.command_words.specs.declared.mode.Mode.TheVariants.{Plain}
 use Rattle.command_words.specs.Orders.{Asked}
-use Rattle.sodac_cli.specs.declared.status.Status.TheVariants as is
-use Rattle.sodac_cli.specs.Due.{are_apart, first_refusal, names_fit, passed_limit, refusal_of, stages_of}
+use Rattle.job_status.specs.declared.status.Status.{Status}
+use Rattle.job_status.specs.declared.status.Status.TheVariants as is
+use Rattle.sodac_cli.specs.Due.{FirstRefusal, RefusalAt, RefusalOf, are_apart, by_limits, by_names, names_fit, passed_limit, stages_of}
 use Rattle.sodac_cli.specs.Machine.Steps.{LetsPass}
 use Rattle.sodac_cli.specs.Work.{input_count, input_names, output_count, output_names, rows_of, text_names}
 
@@ -110,24 +111,28 @@ few_cells false r o e = refl
 
 -- what is judged in `plain`, and what refuses a program
 module _ (a : Asked) (p : PlainProgram) (plain : a.mode ≡ Plain) where
-  refusal_by : (fit : Bool) (limit : Option Refusal) → names_fit a p ≡ fit → passed_limit p (rows_of a) ≡ limit
-      → refusal_of a p ≡ or_else (if fit then None else Some is.Usage) (or_else (option_map (λ r. is.Program r) limit) None)
-  refusal_by fit limit x z =
-      ap (λ m. first_refusal (stages_of m) a p) plain
-      ∙ ap (λ b. or_else (if b then None else Some is.Usage) (or_else (option_map (λ r. is.Program r) (passed_limit p (rows_of a))) None)) x
-      ∙ ap (λ o. or_else (if fit then None else Some is.Usage) (or_else (option_map (λ r. is.Program r) o) None)) z
+  in_plain : (r : Option Status) → FirstRefusal (stages_of Plain) a p r → RefusalOf a p r
+  in_plain r x = let P : Mode → Type 0 = λ m. FirstRefusal (stages_of m) a p r in subst P (sym plain) x
 
-  pub names_refused : names_fit a p ≡ false → refusal_of a p ≡ Some is.Usage
-  names_refused x = refusal_by false (passed_limit p (rows_of a)) x refl
+  -- what the names say
+  named : (fit : Bool) → names_fit a p ≡ fit → RefusalAt by_names a p (if fit then None else Some is.Usage)
+  named fit x = let test : Bool → Option Status = λ b. if b then None else Some is.Usage in ap test (sym x)
 
-  pub limit_refused : names_fit a p ≡ true → (r : Refusal) → passed_limit p (rows_of a) ≡ Some r → refusal_of a p ≡ Some (is.Program r)
-  limit_refused x r z = refusal_by true (Some r) x z
+  -- what the limits say
+  limited : (limit : Option Refusal) → passed_limit p (rows_of a) ≡ limit → RefusalAt by_limits a p (option_map (λ r. is.Program r) limit)
+  limited limit x = ap (λ (o : Option Refusal). option_map (λ r. is.Program r) o) (sym x)
+
+  pub names_refused : names_fit a p ≡ false → RefusalOf a p (Some is.Usage)
+  names_refused x = in_plain (Some is.Usage) (Some is.Usage, named false x, refl)
+
+  pub limit_refused : names_fit a p ≡ true → (r : Refusal) → passed_limit p (rows_of a) ≡ Some r → RefusalOf a p (Some (is.Program r))
+  limit_refused x r z = in_plain (Some (is.Program r)) (None, named true x, (Some (is.Program r), limited (Some r) z, refl))
 
   pub lets_pass : names_fit a p ≡ true → passed_limit p (rows_of a) ≡ None → LetsPass a p
   lets_pass x z =
       let fit = and_parts (length a.names == input_count p + output_count p) (are_apart (text_names a ++ input_names a p) (output_names a p)) x in
       record {
-        none = refusal_by true None x z;
+        none = in_plain None (None, named true x, (None, limited None z, refl));
         few = ltb-false most_cells (cells_at p (rows_of a)) (few_cells (nat_lt most_cells (cells_at p (rows_of a))) (Limit Cells (cells_at p (rows_of a))) _ z);
         count = eqb-true (length a.names) (input_count p + output_count p) fit.0;
         apart = fit.1;

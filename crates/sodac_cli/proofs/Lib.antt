@@ -24,3 +24,4 @@ pub mod Ready
 pub mod Typed
 pub mod Numbers
 pub mod InputFaults
+pub mod Compiled

@@ -1,5 +1,5 @@
 -- A job of a mode that only prints, behind the reading of its program.
-use Rattle.std.proofs.Common.{◌≡◌, ◌≤◌, ℕ, Bool, true, false, List, [], ◌∷◌, ◌++◌, take, length, Result, Ok, Some, None, refl, sym, ap, subst, ◌∙◌, arith}
+use Rattle.std.proofs.Common.{◌≡◌, ◌≤◌, ℕ, true, List, [], ◌∷◌, ◌++◌, take, length, Result, Ok, Some, None, refl, sym, ap, subst, ◌∙◌, arith}
 use Rattle.soda_io.specs.Store.{Store}
 use Rattle.soda_ir.specs.Program.{PlainProgram}
 use Rattle.std.proofs.lemmas.List.{take_all}
@@ -7,33 +7,33 @@ use Rattle.job_files.specs.Contents.{Holding}
 use Rattle.command_words.specs.declared.mode.Mode.{Mode}
 use Rattle.command_words.specs.declared.mode.Mode.TheVariants.{Check, Plan}
 use Rattle.command_words.specs.Orders.{Asked}
-use Rattle.sodac_cli.specs.declared.status.Status.TheVariants as is
+use Rattle.job_status.specs.declared.status.Status.TheVariants as is
 use Rattle.sodac_cli.specs.Correct.{Runs}
-use Rattle.sodac_cli.specs.Due.{DueOf, Stage, accepted, first_refusal, refusal_of}
+use Rattle.sodac_cli.specs.Due.{DueOf, FirstRefusal, RefusalOf, Stage, accepted}
 use Rattle.sodac_cli.specs.Machine.Steps.{IsRead, OnlyPrints}
-use Rattle.sodac_cli.specs.Outputs.{Delivers, DeliversIf}
+use Rattle.sodac_cli.specs.Outputs.{Delivers, DeliversBy}
 use Rattle.sodac_cli.specs.Printed.{IsPrinted, PrintsAll, PrintsPrefix}
-use Rattle.sodac_cli.specs.Work.{HasProgram, is_built, program_file}
+use Rattle.sodac_cli.specs.Work.{HasProgram, Product, is_built, program_file}
 use Rattle.sodac_cli.proofs.Begun.{due_built, due_done}
 use Rattle.sodac_cli.proofs.Reading.{read_asks, read_due, read_leaves, read_memory}
 
 pub check_prints : (m : Mode) → m ≡ Check → OnlyPrints m
-check_prints m mode = subst OnlyPrints (sym mode) (record { out = refl; no_steps = refl; no_arrays = refl })
+check_prints m mode = subst OnlyPrints (sym mode) (record { out = refl; no_steps = refl; writes = refl })
 
 pub plan_prints : (m : Mode) → m ≡ Plan → OnlyPrints m
-plan_prints m mode = subst OnlyPrints (sym mode) (record { out = refl; no_steps = refl; no_arrays = refl })
+plan_prints m mode = subst OnlyPrints (sym mode) (record { out = refl; no_steps = refl; writes = refl })
 
 -- what such a job does with the files
 module _ (p : PlainProgram) (first : ℕ) (begun : Store) (a : Asked) (given : ℕ) (now : Store) (only : OnlyPrints a.mode)
     (built : is_built a ≡ true) (w : IsRead first begun a p given now) where
-  none : refusal_of a p ≡ None
-  none = ap (λ (stages : List Stage). first_refusal stages a p) only.no_steps
+  none : RefusalOf a p None
+  none = let P : List Stage → Type 0 = λ stages. FirstRefusal stages a p None in subst P (sym only.no_steps) refl
 
   is_done : DueOf begun.bytes a (program_file a ∷ []) is.Ok
-  is_done = accepted p w.program (due_done begun.bytes a p (program_file a ∷ []) is.Ok none only.no_arrays refl refl)
+  is_done = accepted p w.program (due_done begun.bytes a p (program_file a ∷ []) is.Ok none only.writes refl refl)
 
   delivered : Delivers begun.bytes now.bytes (Some a)
-  delivered = let P : Bool → Type 0 = λ b. DeliversIf b begun.bytes now.bytes a in subst P (sym only.no_arrays) tt
+  delivered = let P : Product → Type 0 = λ m. DeliversBy m begun.bytes now.bytes a in subst P (sym only.writes) tt
 
   pub print_done : Runs first begun (Some a) given now is.Ok
   print_done = read_due first begun a given now built w.keeps w.asked.places w.asked.few w.asked.progress is.Ok refl is_done (λ e. delivered)
@@ -47,6 +47,7 @@ module _ (p : PlainProgram) (first : ℕ) (begun : Store) (a : Asked) (given : �
     };
     files = read_leaves first begun a given now built w.keeps w.asked.places w.asked.few w.asked.progress;
     delivered = λ e. absurd (cc);
+    whole = λ e. delivered;
   }
 
   pub print_memory : Runs first begun (Some a) given now is.Memory

@@ -6,13 +6,14 @@ use Rattle.soda_ir.specs.Program.{PlainProgram}
 use Rattle.job_files.specs.Contents.{Holding}
 use Rattle.job_files.specs.Files.{JobFile}
 use Rattle.command_words.specs.Orders.{Asked}
-use Rattle.sodac_cli.specs.declared.status.Status.{Status}
-use Rattle.sodac_cli.specs.declared.status.Status.TheVariants as is
+use Rattle.job_status.specs.declared.status.Status.{Status}
+use Rattle.job_status.specs.declared.status.Status.TheVariants as is
 use Rattle.sodac_cli.specs.Correct.{Runs}
-use Rattle.sodac_cli.specs.Due.{DueAfter, DueBy, DueFor, DueIf, DueOf, DueWith, MayAsk, MayAskFor, MayAskIf, accepted, asks_arrays, asks_params, asks_program, bad_params, good_params, refusal_of, refused}
-use Rattle.sodac_cli.specs.Endings.{AsksBy, AsksSome, AsksUntilDue, Ending, due, ending_of, file_fault, memory, out_fault}
+use Rattle.sodac_cli.specs.Due.{DueAfter, DueBy, DueFor, DueIf, DueOf, DueWith, MayAsk, MayAskFor, MayAskIf, RefusalOf, accepted, asks_arrays, asks_module, asks_params, asks_program, bad_params, good_params, refused}
+use Rattle.job_status.specs.Endings.{Ending, due, ending_of, file_fault, memory, out_fault}
+use Rattle.sodac_cli.specs.Journal.{AsksBy, AsksSome, AsksUntilDue}
 use Rattle.sodac_cli.specs.Printed.{Prints, PrintsAll, PrintsBy, PrintsPrefix}
-use Rattle.sodac_cli.specs.Work.{HasProgram, is_built, writes_arrays}
+use Rattle.sodac_cli.specs.Work.{HasProgram, Product, array_files, is_built, makes, module_file, no_files}
 
 -- what holds of the own status and for want of memory holds of what is answered
 pub of_answer : (P : Status → Type 0) {Same : Type 0} (own answer : Status) → (answer ≡ own) ⊎ ((answer ≡ is.Memory) × Same) → P own → P is.Memory
@@ -23,21 +24,22 @@ of_answer P own answer (inr other) at_own at_memory = subst P (sym other.0) at_m
 -- files that are asked for until a status is due may be asked for before want of memory
 module _ (h : Holding) (a : Asked) (files : List JobFile) (s : Status) where
   module _ (p : PlainProgram) (has : HasProgram h a p) where
-    may_with : refusal_of a p ≡ None → writes_arrays a.mode ≡ true → DueWith h a p files s → MayAsk h a files
+    may_with : RefusalOf a p None → makes a.mode ≡ array_files → DueWith h a p files s → MayAsk h a files
     may_with none writes (bad_params line refuses all ends) = asks_params writes p has none all
     may_with none writes (good_params values given all over) = asks_arrays writes p has none values given [] (sym all ∙ sym (append-nil files))
 
-    may_by : refusal_of a p ≡ None → (writes : Bool) → writes_arrays a.mode ≡ writes → DueBy writes h a p files s → MayAsk h a files
-    may_by none true writes d = may_with none writes d
-    may_by none false writes d = asks_program d.0
+    may_by : RefusalOf a p None → (m : Product) → makes a.mode ≡ m → DueBy m h a p files s → MayAsk h a files
+    may_by none no_files writes d = asks_program d.0
+    may_by none array_files writes d = may_with none writes d
+    may_by none module_file writes d = asks_module writes p has none d.0
 
-    may_after : (o : Option Status) → refusal_of a p ≡ o → DueAfter o h a p files s → MayAsk h a files
-    may_after None none d = may_by none (writes_arrays a.mode) refl d
+    may_after : (o : Option Status) → RefusalOf a p o → DueAfter o h a p files s → MayAsk h a files
+    may_after None none d = may_by none (makes a.mode) refl d
     may_after (Some r) some d = asks_program d.0
 
   may_of : DueOf h a files s → MayAsk h a files
   may_of (refused text r there refuses all ends) = asks_program all
-  may_of (accepted p has d) = may_after p has (refusal_of a p) refl d
+  may_of (accepted p has d) = may_after p has d.0 d.1 d.2
 
   may_if : (b : Bool) → DueIf b h a files s → MayAskIf b h a files
   may_if true d = may_of d
@@ -66,7 +68,7 @@ module _ (first : ℕ) (begun : Store) (asked : Option Asked) (given : ℕ) (now
   memory_asked memory s j = j
 
   pub memory_runs : (s : Status) → Runs first begun asked given now s → Runs first begun asked given now is.Memory
-  memory_runs s r = record { journal = memory_asked (ending_of s) s r.journal; files = r.files; delivered = λ e. absurd (cc) }
+  memory_runs s r = record { journal = memory_asked (ending_of s) s r.journal; files = r.files; delivered = λ e. absurd (cc); whole = λ e. absurd (cc) }
 
 -- what was printed
 module _ (h : Holding) (a : Asked) (old new : List ℕ) where

@@ -7,7 +7,7 @@ use Rattle.soda_io.specs.declared.role.FileRole.TheVariants.{Input, Output}
 use Rattle.soda_ir.specs.Program.{PlainProgram}
 use Rattle.job_files.specs.Files.{HasRole, JobFile, asking, created_of}
 use Rattle.command_words.specs.Orders.{Asked}
-use Rattle.sodac_cli.specs.Endings.{opened_count}
+use Rattle.sodac_cli.specs.Journal.{opened_count, texts_among}
 use Rattle.sodac_cli.specs.Work.{files_of, if_given, input_count, input_names, inputs_from, output_count, output_names, outputs_from, params_file, program_file, text_count, texts_of}
 
 -- each is asked for by its name
@@ -114,6 +114,34 @@ opened_inputs k (name ∷ names) rest = omega (arith, opened_inputs (k + 1) name
 opened_outputs : (k : ℕ) (names : List (List ℕ)) → opened_count (outputs_from k names) ≡ 0
 opened_outputs k [] = refl
 opened_outputs k (name ∷ names) = omega (arith, opened_outputs (k + 1) names)
+
+-- how many of them have texts
+counted_inputs : (k : ℕ) (names : List (List ℕ)) (rest : List JobFile) → texts_among (inputs_from k names ++ rest) ≡ texts_among rest
+counted_inputs k [] rest = refl
+counted_inputs k (name ∷ names) rest = omega (arith, counted_inputs (k + 1) names rest)
+
+counted_outputs : (k : ℕ) (names : List (List ℕ)) → texts_among (outputs_from k names) ≡ 0
+counted_outputs k [] = refl
+counted_outputs k (name ∷ names) = omega (arith, counted_outputs (k + 1) names)
+
+counted_texts : (a : Asked) (rest : List JobFile) → texts_among (texts_of a ++ rest) ≡ text_count a + texts_among rest
+counted_texts a rest =
+    elim a.params as (λ o. texts_among (program_file a ∷ (map params_file (if_given o) ++ rest)) ≡ 1 + length (if_given o) + texts_among rest)
+    [ None ↦ omega arith | Some name ↦ omega arith ]
+
+pub texts_alone : (a : Asked) → texts_among (texts_of a) ≡ text_count a
+texts_alone a =
+    elim a.params as (λ o. texts_among (program_file a ∷ map params_file (if_given o)) ≡ 1 + length (if_given o)) [ None ↦ refl | Some name ↦ refl ]
+
+pub texts_counted : (a : Asked) (p : PlainProgram) → texts_among (files_of a p) ≡ text_count a
+texts_counted a p =
+    let outputs = outputs_from 0 (output_names a p) in
+    omega (
+      arith,
+      counted_texts a (inputs_from 0 (input_names a p) ++ outputs),
+      counted_inputs 0 (input_names a p) outputs,
+      counted_outputs 0 (output_names a p),
+    )
 
 -- the files of a job, and each of its inputs and outputs among them
 abbrev pub input_file : ℕ → List ℕ → JobFile

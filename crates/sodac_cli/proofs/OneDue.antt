@@ -1,9 +1,14 @@
 -- One status alone is due, over one list of files.
-use Rattle.std.proofs.Common.{◌≡◌, ℕ, Bool, true, false, List, Option, Some, None, ℤ, refl, sym, ap, subst, ◌∙◌}
+use Rattle.std.proofs.Common.{◌≡◌, ℕ, Bool, true, false, List, Option, Some, None, ℤ, [], ◌∷◌, option_map, refl, sym, ap, subst, ◌∙◌}
 use Rattle.std.proofs.lemmas.Option.{same_Some}
 use Rattle.soda_words.specs.Limits.{most_text}
 use Rattle.soda_ir.specs.Program.{PlainParam, PlainProgram, input_types}
 use Rattle.soda_eval.specs.Runs.{cells_at}
+use Rattle.delay_net.specs.declared.net.Read.{Read}
+use Rattle.time_stages.specs.Staged.{staged_reads, staged_widths}
+use Rattle.flow_solve.specs.LeastPlan.{IsLeastPlan}
+use Rattle.net_build.specs.Limits.{limit_passed}
+use Rattle.net_build.specs.Planned.{plan_of}
 use Rattle.array_bytes.specs.declared.fault.CellFault.{CellFault}
 use Rattle.param_lines.specs.Params.{GivesParams, RefusesLine}
 use Rattle.soda_parse.specs.Text.{Accepts, Refuses}
@@ -11,11 +16,11 @@ use Rattle.soda_parse.specs.declared.refusal.Refusal.{Refusal}
 use Rattle.job_files.specs.Contents.{Holding}
 use Rattle.job_files.specs.Files.{JobFile}
 use Rattle.command_words.specs.Orders.{Asked}
-use Rattle.sodac_cli.specs.declared.status.ArrayFault.TheVariants as of
-use Rattle.sodac_cli.specs.declared.status.Status.{Status}
-use Rattle.sodac_cli.specs.declared.status.Status.TheVariants as is
-use Rattle.sodac_cli.specs.Due.{DueAfter, DueBehind, DueBy, DueFor, DueIf, DueOf, DueOver, DueWith, accepted, bad_params, done, faulty, good_params, refused, refusal_of}
-use Rattle.sodac_cli.specs.Work.{HasParamsBy, HasProgram, RefusesParamsBy, form_of, input_names, is_built, program_of, rows_of, writes_arrays}
+use Rattle.job_status.specs.declared.status.ArrayFault.TheVariants as of
+use Rattle.job_status.specs.declared.status.Status.{Status}
+use Rattle.job_status.specs.declared.status.Status.TheVariants as is
+use Rattle.sodac_cli.specs.Due.{DueAfter, DueBehind, DueBy, DueFor, DueIf, DueOf, DueOver, DueWith, FirstRefusal, RefusalAt, RefusalBehind, Stage, accepted, bad_params, by_limits, by_names, by_network, done, faulty, good_params, limit_status, refused, stages_of}
+use Rattle.sodac_cli.specs.Work.{HasParamsBy, HasProgram, Product, RefusesParamsBy, array_files, form_of, input_names, is_built, makes, module_file, no_files, program_of, rows_of}
 use Rattle.sodac_cli.proofs.ArrayLaws.{fault_or_arrays, faults_one}
 
 -- over the inputs
@@ -55,13 +60,35 @@ module _ (values_one : (ps : List PlainParam) (bytes : List ℕ) (v w : List ℤ
     with_one f g s t (good_params values given all over) (bad_params k refuses those ends) = absurd (never_by a.params values k given refuses)
     with_one f g s t (good_params values given all over) (good_params others also those more) = (over_one h a p s t over more, all ∙ sym those)
 
-    by_one : (writes : Bool) (f g : List JobFile) (s t : Status) → DueBy writes h a p f s → DueBy writes h a p g t → (s ≡ t) × (f ≡ g)
-    by_one true f g s t x y = with_one f g s t x y
-    by_one false f g s t x y = (x.1 ∙ sym y.1, x.0 ∙ sym y.0)
+    by_one : (m : Product) (f g : List JobFile) (s t : Status) → DueBy m h a p f s → DueBy m h a p g t → (s ≡ t) × (f ≡ g)
+    by_one no_files f g s t x y = (x.1 ∙ sym y.1, x.0 ∙ sym y.0)
+    by_one array_files f g s t x y = with_one f g s t x y
+    by_one module_file f g s t x y = (x.1 ∙ sym y.1, x.0 ∙ sym y.0)
 
     pub behind_one : (f g : List JobFile) (s t : Status) (o : Option Status) → DueAfter o h a p f s → DueAfter o h a p g t → (s ≡ t) × (f ≡ g)
-    behind_one f g s t None x y = by_one (writes_arrays a.mode) f g s t x y
+    behind_one f g s t None x y = by_one (makes a.mode) f g s t x y
     behind_one f g s t (Some r) x y = (x.1 ∙ sym y.1, x.0 ∙ sym y.0)
+
+-- the steps of a mode have one first refusal at most, since a program has one least plan at most
+module _ (plans_one : (weights : List ℕ) (reads : List Read) (first second : List ℕ) → IsLeastPlan weights reads first → IsLeastPlan weights reads second → first ≡ second)
+    (a : Asked) (p : PlainProgram) where
+  at_one : (stage : Stage) (r s : Option Status) → RefusalAt stage a p r → RefusalAt stage a p s → r ≡ s
+  at_one by_names r s x y = x ∙ sym y
+  at_one by_network r s x y =
+      let same : x.0 ≡ y.0 = plans_one (staged_widths p) (staged_reads p) x.0 y.0 x.1 y.1 in
+      x.2 ∙ ap (λ (delays : List ℕ). option_map limit_status (limit_passed (plan_of p delays))) same ∙ sym y.2
+  at_one by_limits r s x y = x ∙ sym y
+
+  after_one : (Next : Option Status → Type 0) → ((r s : Option Status) → Next r → Next s → r ≡ s) → (own r s : Option Status)
+      → RefusalBehind own Next r → RefusalBehind own Next s → r ≡ s
+  after_one Next one None r s x y = one r s x y
+  after_one Next one (Some own) r s x y = x ∙ sym y
+
+  pub first_one : (stages : List Stage) (r s : Option Status) → FirstRefusal stages a p r → FirstRefusal stages a p s → r ≡ s
+  first_one [] r s x y = x ∙ sym y
+  first_one (stage ∷ stages) r s x y =
+      let P : Option Status → Type 0 = λ own. RefusalBehind own (FirstRefusal stages a p) s in
+      after_one (FirstRefusal stages a p) (first_one stages) x.0 r s x.2 (subst P (sym (at_one stage x.0 y.0 x.1 y.1)) y.2)
 
 -- a text stands for one program at most, is refused for one cause at most, and never does both
 module _ (program : (most : ℕ) (bytes : List ℕ) (p q : PlainProgram) → Accepts most bytes p → Accepts most bytes q → p ≡ q)
@@ -70,6 +97,7 @@ module _ (program : (most : ℕ) (bytes : List ℕ) (p q : PlainProgram) → Acc
     (values_one : (ps : List PlainParam) (bytes : List ℕ) (v w : List ℤ) → GivesParams ps bytes v → GivesParams ps bytes w → v ≡ w)
     (line_one : (ps : List PlainParam) (bytes : List ℕ) (k l : ℕ) → RefusesLine ps bytes k → RefusesLine ps bytes l → k ≡ l)
     (never_both : (ps : List PlainParam) (bytes : List ℕ) (v : List ℤ) (l : ℕ) → GivesParams ps bytes v → RefusesLine ps bytes l → ⊥)
+    (plans_one : (weights : List ℕ) (reads : List Read) (first second : List ℕ) → IsLeastPlan weights reads first → IsLeastPlan weights reads second → first ≡ second)
     (h : Holding) where
   -- the program's file holds one text
   accepted_there : (a : Asked) (p : PlainProgram) (bytes : List ℕ) → h (program_of a) ≡ Some bytes → HasProgram h a p → Accepts most_text bytes p
@@ -89,7 +117,10 @@ module _ (program : (most : ℕ) (bytes : List ℕ) (p q : PlainProgram) → Acc
   of_one a f g s t (accepted p has d) (refused text r there gone files ends) = absurd (apart most_text text p r (accepted_there a p text there has) gone)
   of_one a f g s t (accepted p has d) (accepted q had e) =
       let P : PlainProgram → Type 0 = λ x. DueBehind h a x g t in
-      behind_one values_one line_one never_both h p a f g s t (refusal_of a p) d (subst P (sym (one_program a p q has had)) e)
+      let other : DueBehind h a p g t = subst P (sym (one_program a p q has had)) e in
+      let Q : Option Status → Type 0 = λ r. DueAfter r h a p g t in
+      let same : d.0 ≡ other.0 = first_one plans_one a p (stages_of a.mode) d.0 other.0 d.1 other.1 in
+      behind_one values_one line_one never_both h p a f g s t d.0 d.2 (subst Q (sym same) other.2)
 
   if_one : (b : Bool) (a : Asked) (f g : List JobFile) (s t : Status) → DueIf b h a f s → DueIf b h a g t → (s ≡ t) × (f ≡ g)
   if_one true a f g s t x y = of_one a f g s t x y

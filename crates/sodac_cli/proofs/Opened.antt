@@ -10,7 +10,7 @@ use Rattle.job_files.specs.Steps.{AsksAll}
 use Rattle.job_files.specs.declared.fail.StepFail.{StepFail}
 use Rattle.job_files.specs.declared.fail.StepFail.TheVariants as step
 use Rattle.command_words.specs.Orders.{Asked}
-use Rattle.sodac_cli.specs.declared.status.Status.TheVariants as is
+use Rattle.job_status.specs.declared.status.Status.TheVariants as is
 use Rattle.sodac_cli.specs.Correct.{Runs}
 use Rattle.sodac_cli.specs.Due.{MayAsk, asks_arrays}
 use Rattle.sodac_cli.specs.Machine.Steps.{IsOpened, IsSettled}

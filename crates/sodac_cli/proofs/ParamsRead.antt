@@ -17,17 +17,18 @@ use Rattle.job_files.specs.Progress.{Progress, Stuck}
 use Rattle.job_files.specs.Steps.{AsksNext, ReadsNext}
 use Rattle.job_files.proofs.CallerLemmas.{whole_left}
 use Rattle.command_words.specs.Orders.{Asked}
-use Rattle.sodac_cli.specs.declared.status.ArrayFault.TheVariants as of
-use Rattle.sodac_cli.specs.declared.status.Status.{Status}
-use Rattle.sodac_cli.specs.declared.status.Status.TheVariants as is
+use Rattle.job_status.specs.declared.status.ArrayFault.TheVariants as of
+use Rattle.job_status.specs.declared.status.Status.{Status}
+use Rattle.job_status.specs.declared.status.Status.TheVariants as is
 use Rattle.sodac_cli.specs.Correct.{Runs}
 use Rattle.sodac_cli.specs.Due.{MayAsk, accepted, asks_params, bad_params}
-use Rattle.sodac_cli.specs.Endings.{ReadsFew}
+use Rattle.sodac_cli.specs.Journal.{ReadsFew}
 use Rattle.sodac_cli.specs.Machine.Steps.{HasAsked, IsJudged, IsRead, IsSettled}
 use Rattle.sodac_cli.specs.Machine.Text.{HasLines, unread_lines}
 use Rattle.sodac_cli.specs.Work.{HasParamsBy, RefusesParams, RefusesParamsBy, if_given, params_file, program_file, text_count, texts_of}
 use Rattle.sodac_cli.proofs.Begun.{due_with, leaves_asked, leaves_stuck, runs_due, runs_fault, runs_memory}
 use Rattle.sodac_cli.proofs.Few.{few_params}
+use Rattle.sodac_cli.proofs.Numbered.{texts_alone}
 use Rattle.sodac_cli.proofs.Reading.{read_memory}
 
 -- the texts of a job are asked for, and nothing more
@@ -61,7 +62,7 @@ module _ (first : ℕ) (begun : Store) (a : Asked) (p : PlainProgram) (judged : 
           program = λ ne. omega (arith, some);
           texts = λ ne also.
               let other : line ≢ 0 = λ e. also (ap (λ (l : ℕ). is.Array (of.Params l)) e) in
-              omega (arith, all other);
+              omega (arith, all other, texts_alone a);
         })
         (λ e. absurd (cc))
 

@@ -1,11 +1,11 @@
 -- Which answers the words allow.
-use Rattle.std.proofs.Common.{◌≡◌, ◌≢◌, Bool, true, false, Some, sym, subst, inr}
+use Rattle.std.proofs.Common.{◌≡◌, ◌≢◌, Bool, true, false, Some, sym, subst, inl, inr}
 use Rattle.soda_io.specs.declared.role.FileRole.{FileRole}
 use Rattle.command_words.specs.declared.mode.Mode.{Mode}
 use Rattle.command_words.specs.Orders.{Asked}
-use Rattle.sodac_cli.specs.declared.status.Status.{Status}
-use Rattle.sodac_cli.specs.declared.status.Status.TheVariants as is
-use Rattle.sodac_cli.specs.Allowed.{Allows, AllowsIf, AllowsMode, AllowsPlain, AllowsPrinting, IsOfPlain}
+use Rattle.job_status.specs.declared.status.Status.{Status}
+use Rattle.job_status.specs.declared.status.Status.TheVariants as is
+use Rattle.sodac_cli.specs.Allowed.{Allows, AllowsCompile, AllowsIf, AllowsMode, AllowsPlain, AllowsPrinting, IsOfPlain}
 use Rattle.sodac_cli.specs.Machine.Text.{IsOfText}
 use Rattle.sodac_cli.specs.Work.{is_built}
 
@@ -40,6 +40,16 @@ text_in_plain (is.FileFault role) t = let P : FileRole → Type 0 = λ r. IsOfPl
 text_in_plain is.OutFault t = absurd t
 text_in_plain is.Memory t = tt
 text_in_plain is.NotYetBuilt t = absurd t
+
+pub text_in_compile : (s : Status) → IsOfText s → AllowsCompile s
+text_in_compile is.Ok t = absurd t
+text_in_compile is.Usage t = absurd t
+text_in_compile (is.Program r) t = tt
+text_in_compile (is.Array fault) t = absurd t
+text_in_compile (is.FileFault role) t = inl t
+text_in_compile is.OutFault t = absurd t
+text_in_compile is.Memory t = tt
+text_in_compile is.NotYetBuilt t = absurd t
 
 -- what a mode that is built allows
 module _ (a : Asked) (s : Status) where

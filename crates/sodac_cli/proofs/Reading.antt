@@ -22,11 +22,12 @@ use Rattle.job_files.specs.Progress.{Progress, Stuck}
 use Rattle.job_files.specs.Steps.{AsksNext, ReadsNext}
 use Rattle.job_files.proofs.CallerLemmas.{id_opened, whole_left}
 use Rattle.command_words.specs.Orders.{Asked}
-use Rattle.sodac_cli.specs.declared.status.Status.{Status}
-use Rattle.sodac_cli.specs.declared.status.Status.TheVariants as is
+use Rattle.job_status.specs.declared.status.Status.{Status}
+use Rattle.job_status.specs.declared.status.Status.TheVariants as is
 use Rattle.sodac_cli.specs.Correct.{Runs}
 use Rattle.sodac_cli.specs.Due.{DueOf, asks_none, asks_program, refused}
-use Rattle.sodac_cli.specs.Endings.{AsksAll, ReadsFew, due, ending_of}
+use Rattle.job_status.specs.Endings.{due, ending_of}
+use Rattle.sodac_cli.specs.Journal.{AsksAll, ReadsFew}
 use Rattle.sodac_cli.specs.Machine.Text.{HasText, unread_status}
 use Rattle.sodac_cli.specs.Outputs.{Delivers, Leaves}
 use Rattle.sodac_cli.specs.Work.{is_built, program_file, program_of}

@@ -7,10 +7,10 @@ use Rattle.job_files.specs.Files.{JobFile}
 use Rattle.command_words.specs.declared.mode.Mode.{Mode}
 use Rattle.command_words.specs.declared.mode.Mode.TheVariants.{Plain}
 use Rattle.command_words.specs.Orders.{Asked}
-use Rattle.sodac_cli.specs.declared.status.Status.{Status}
-use Rattle.sodac_cli.specs.declared.status.Status.TheVariants as is
+use Rattle.job_status.specs.declared.status.Status.{Status}
+use Rattle.job_status.specs.declared.status.Status.TheVariants as is
 use Rattle.sodac_cli.specs.Correct.{Runs}
-use Rattle.sodac_cli.specs.Counts.{OutFaults}
+use Rattle.job_status.specs.Counts.{OutFaults}
 use Rattle.sodac_cli.specs.Due.{DueIf, DueOf, accepted, refused}
 use Rattle.sodac_cli.specs.Printed.{IsPrinted, Prints}
 use Rattle.sodac_cli.specs.Work.{HasProgram, is_built}

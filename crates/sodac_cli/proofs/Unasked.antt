@@ -1,14 +1,15 @@
 -- A run that asks for no file.
-use Rattle.std.proofs.Common.{◌≡◌, ◌≢◌, ℕ, Bool, true, false, not, ◌&&◌, [], Option, Some, None, refl, sym, ap, subst, arith, inl}
+use Rattle.std.proofs.Common.{◌≡◌, ◌≢◌, ℕ, Bool, true, false, not, ◌&&◌, [], Option, Some, None, refl, sym, ap, subst, ◌∙◌, arith, inl}
 use Rattle.soda_io.specs.Store.{Store}
 use Rattle.job_files.specs.Contents.{Holding}
 use Rattle.job_files.proofs.CallerLemmas.{begin, created_names, holds_none}
 use Rattle.command_words.specs.Orders.{Asked}
-use Rattle.sodac_cli.specs.declared.status.Status.{Status}
-use Rattle.sodac_cli.specs.declared.status.Status.TheVariants as is
+use Rattle.job_status.specs.declared.status.Status.{Status}
+use Rattle.job_status.specs.declared.status.Status.TheVariants as is
 use Rattle.sodac_cli.specs.Correct.{Runs}
 use Rattle.sodac_cli.specs.Due.{DueFor, DueIf, MayAskFor, MayAskIf, asks_none}
-use Rattle.sodac_cli.specs.Endings.{AsksBy, Ending, ReadsFewFor, due, ending_of}
+use Rattle.job_status.specs.Endings.{Ending, due, ending_of, out_fault}
+use Rattle.sodac_cli.specs.Journal.{AsksBy, ReadsFewFor}
 use Rattle.sodac_cli.specs.Outputs.{AreOutputs, Leaves}
 use Rattle.sodac_cli.specs.Work.{is_built, is_built_mode}
 use Rattle.sodac_cli.proofs.Few.{few_none}
@@ -41,6 +42,7 @@ module _ (first : ℕ) (begun : Store) (asked : Option Asked) where
         });
         files = untouched;
         delivered = λ e. absurd (not_ok e);
+        whole = λ e. let other : due ≡ out_fault = sym ending ∙ ap ending_of e in absurd (cc);
       }
 
   -- the words aren't taken
@@ -61,6 +63,7 @@ module _ (first : ℕ) (begun : Store) (asked : Option Asked) where
     });
     files = untouched;
     delivered = λ e. absurd (cc);
+    whole = λ e. absurd (cc);
   }
 
 -- what is asked for isn't built

@@ -1,5 +1,5 @@
 -- What ends a run that writes its outputs, and how it goes on.
-use Rattle.std.proofs.Common.{◌≡◌, ◌<◌, ℕ, ◌+◌, Bool, true, false, List, [], ◌∷◌, ◌++◌, length, map, take, get_or, slice_index_or, Option, Some, None, Result, Err, ℤ, refl, sym, ap, subst, ◌∙◌, inl, inr, arith, take_all, add-one}
+use Rattle.std.proofs.Common.{◌≡◌, ◌<◌, ℕ, ◌+◌, false, List, [], ◌∷◌, ◌++◌, length, map, take, get_or, slice_index_or, Option, Some, None, Result, Err, ℤ, refl, sym, ap, subst, ◌∙◌, inl, inr, arith, take_all, add-one}
 use Rattle.std.proofs.lemmas.Option.{same_Some}
 use Rattle.soda_io.specs.declared.error.IoErr.{IoErr}
 use Rattle.soda_io.specs.declared.error.IoErr.TheVariants as io
@@ -19,12 +19,12 @@ use Rattle.job_files.specs.Progress.{Progress}
 use Rattle.job_files.specs.Steps.{WritesTo}
 use Rattle.job_files.proofs.CallerLemmas.{id_name, id_opened}
 use Rattle.command_words.specs.Orders.{Asked}
-use Rattle.sodac_cli.specs.declared.status.Status.TheVariants as is
+use Rattle.job_status.specs.declared.status.Status.TheVariants as is
 use Rattle.sodac_cli.specs.Correct.{Runs}
 use Rattle.sodac_cli.specs.Due.{done}
 use Rattle.sodac_cli.specs.Machine.Steps.{IsWriting, WritesOutput, filled}
-use Rattle.sodac_cli.specs.Outputs.{AreOutputs, ArePrefixes, Delivers, DeliversIf, HoldTexts}
-use Rattle.sodac_cli.specs.Work.{HasInputs, HasParams, HasParamsBy, HasProgram, files_of, form_of, input_count, input_names, output_count, output_names, output_texts, rows_of, run_of, text_count, writes_arrays}
+use Rattle.sodac_cli.specs.Outputs.{AreOutputs, ArePrefixes, Delivers, DeliversBy, HoldTexts}
+use Rattle.sodac_cli.specs.Work.{AreTexts, AreTextsBy, HasInputs, HasParams, HasParamsBy, HasProgram, Product, array_files, files_of, form_of, input_count, input_names, makes, output_count, output_names, output_texts, rows_of, run_of, text_count}
 use Rattle.sodac_cli.proofs.AllAsked.{all_due, all_fault, all_memory}
 use Rattle.sodac_cli.proofs.ArrayLaws.{arrays_one}
 use Rattle.sodac_cli.proofs.Emptied.{all_empty, emptied_names}
@@ -58,12 +58,8 @@ module _ (texts_one : (most : ℕ) (bytes : List ℕ) (p q : PlainProgram) → A
       subst R (arrays_one old (form_of a) (cells_at p (rows_of a)) (input_types p.tensors) (input_names a p) arrays others inputs all)
       (subst Q (params_one a.params values v params given) texts))
 
-  by_mode : (writes : Bool) → DeliversIf writes old new a
-  by_mode true = of_all
-  by_mode false = tt
-
-  delivers : Delivers old new (Some a)
-  delivers = by_mode (writes_arrays a.mode)
+  delivers : makes a.mode ≡ array_files → Delivers old new (Some a)
+  delivers writes = let P : Product → Type 0 = λ m. DeliversBy m old new a in subst P (sym writes) of_all
 
 -- some of the outputs are written
 module _ (first : ℕ) (begun : Store) (a : Asked) (p : PlainProgram) (values : List ℤ) (inputs : List (List ℤ)) (count given : ℕ) (now : Store)
@@ -83,7 +79,9 @@ module _ (first : ℕ) (begun : Store) (a : Asked) (p : PlainProgram) (values : 
 
   pub are_prefixes : (outputs : List (List ℕ × List ℕ)) → ArePrefixes outputs texts → AreOutputs begun.bytes (Some a) outputs
   are_prefixes outputs prefixes =
-      inr (record { plain = p; program = w.judged.program; prefixes = inr (values, w.params, inputs, w.inputs, prefixes) })
+      let P : Product → Type 0 = λ m. AreTextsBy m begun.bytes a p texts in
+      let own : AreTexts begun.bytes a p texts = subst P (sym w.judged.arrays) (values, w.params, inputs, w.inputs, refl) in
+      inr (record { plain = p; program = w.judged.program; prefixes = inr (texts, own, prefixes) })
 
   are : AreOutputs begun.bytes (Some a) (filled names texts count)
   are = are_prefixes (filled names texts count) (filled_prefixes names texts count (omega (arith, same_length)))
@@ -100,7 +98,7 @@ module _ (first : ℕ) (begun : Store) (a : Asked) (p : PlainProgram) (values : 
       (text_count a + input_count p) w.asked.places w.asked.few w.asked.progress is.Ok refl (omega arith)
       (λ e. sym (files_opened a p w.judged.pass.count)) (done inputs w.inputs)
       (λ e. delivers texts_one values_one begun.bytes now.bytes a p w.judged.program values w.params inputs w.inputs
-      (texts_held now.bytes names texts same_length whole.own))
+      (texts_held now.bytes names texts same_length whole.own) w.judged.arrays)
 
 -- memory is refused before any of them is
 pub unwritten_memory : (first : ℕ) (begun : Store) (a : Asked) (p : PlainProgram) (values : List ℤ) (inputs : List (List ℤ)) (given : ℕ) (now : Store)

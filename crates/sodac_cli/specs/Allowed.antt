@@ -6,10 +6,10 @@ use Rattle.job_arrays.specs.Arrays.{IsOfBytes}
 use Rattle.command_words.specs.declared.mode.Mode.{Mode}
 use Rattle.command_words.specs.declared.mode.Mode.TheVariants.{Check, Plain, Plan, Compile, Sim, Selftest}
 use Rattle.command_words.specs.Orders.{Asked}
-use Rattle.sodac_cli.specs.declared.status.ArrayFault.{ArrayFault}
-use Rattle.sodac_cli.specs.declared.status.ArrayFault.TheVariants as of
-use Rattle.sodac_cli.specs.declared.status.Status.{Status}
-use Rattle.sodac_cli.specs.declared.status.Status.TheVariants as is
+use Rattle.job_status.specs.declared.status.ArrayFault.{ArrayFault}
+use Rattle.job_status.specs.declared.status.ArrayFault.TheVariants as of
+use Rattle.job_status.specs.declared.status.Status.{Status}
+use Rattle.job_status.specs.declared.status.Status.TheVariants as is
 use Rattle.sodac_cli.specs.Printed.{prints}
 use Rattle.sodac_cli.specs.Work.{is_built}
 
@@ -51,12 +51,23 @@ AllowsPlain is.OutFault = ⊥
 AllowsPlain is.Memory = Unit {0}
 AllowsPlain is.NotYetBuilt = ⊥
 
+-- what `compile` can end with: it is built for every program, and asks for the program's file and that of the text
+abbrev pub AllowsCompile : Status → Type 0
+AllowsCompile is.Ok = Unit {0}
+AllowsCompile is.Usage = ⊥
+AllowsCompile (is.Program r) = Unit {0}
+AllowsCompile (is.Array fault) = ⊥
+AllowsCompile (is.FileFault role) = (role ≡ Program) ⊎ (role ≡ Modules)
+AllowsCompile is.OutFault = Unit {0}
+AllowsCompile is.Memory = Unit {0}
+AllowsCompile is.NotYetBuilt = ⊥
+
 -- what a mode that is built can end with
 abbrev pub AllowsMode : Mode → Status → Type 0
 AllowsMode Check status = AllowsPrinting status
 AllowsMode Plain status = AllowsPlain status
 AllowsMode Plan status = AllowsPrinting status
-AllowsMode Compile status = ⊥
+AllowsMode Compile status = AllowsCompile status
 AllowsMode Sim status = ⊥
 AllowsMode Selftest status = ⊥
 

@@ -12,10 +12,11 @@ use Rattle.soda_io.specs.Store.{Store}
 use Rattle.job_files.specs.Contents.{Holding}
 use Rattle.job_files.specs.Files.{JobFile}
 use Rattle.command_words.specs.Orders.{Asked}
-use Rattle.sodac_cli.specs.declared.status.Status.{Status}
-use Rattle.sodac_cli.specs.declared.status.Status.TheVariants as is
+use Rattle.job_status.specs.declared.status.Status.{Status}
+use Rattle.job_status.specs.declared.status.Status.TheVariants as is
 use Rattle.sodac_cli.specs.Due.{Due, DueFor}
-use Rattle.sodac_cli.specs.Endings.{Asks, Ending, ending_of, due, file_fault, memory, out_fault}
+use Rattle.job_status.specs.Endings.{Ending, ending_of, due, file_fault, memory, out_fault}
+use Rattle.sodac_cli.specs.Journal.{Asks}
 use Rattle.sodac_cli.specs.Outputs.{Delivers, Leaves}
 use Rattle.sodac_cli.specs.Work.{asked_of}
 
@@ -40,3 +41,4 @@ pub record Runs (first : ℕ) (begun : Store) (asked : Option Asked) (given : �
   pub journal : Asks first begun asked given now status
   pub files : Leaves begun now asked
   pub delivered : status ≡ is.Ok → Delivers begun.bytes now.bytes asked
+  pub whole : status ≡ is.OutFault → Delivers begun.bytes now.bytes asked

@@ -5,9 +5,13 @@ use Rattle.std.specs.Global.{Global}
 use Rattle.std.specs.List.{list_any}
 use Rattle.std.specs.Str.{bytes_eq}
 use Rattle.soda_words.specs.Limits.{most_cells, most_text, most_total}
-use Rattle.soda_words.specs.Tokens.{or_else}
 use Rattle.soda_ir.specs.Program.{PlainProgram}
+use Rattle.soda_ir.specs.declared.limit.LimitKind.{LimitKind}
 use Rattle.soda_ir.specs.declared.limit.LimitKind.TheVariants.{Cells, Total}
+use Rattle.time_stages.specs.Staged.{staged_reads, staged_widths}
+use Rattle.flow_solve.specs.LeastPlan.{IsLeastPlan}
+use Rattle.net_build.specs.Limits.{limit_passed}
+use Rattle.net_build.specs.Planned.{plan_of}
 use Rattle.soda_eval.specs.Runs.{cells_at}
 use Rattle.array_bytes.specs.declared.fault.CellFault.{CellFault}
 use Rattle.soda_parse.specs.Text.{Refuses}
@@ -18,10 +22,10 @@ use Rattle.job_files.specs.Files.{JobFile}
 use Rattle.command_words.specs.declared.mode.Mode.{Mode}
 use Rattle.command_words.specs.declared.mode.Mode.TheVariants.{Check, Plain, Plan, Compile, Sim, Selftest}
 use Rattle.command_words.specs.Orders.{Asked}
-use Rattle.sodac_cli.specs.declared.status.ArrayFault.TheVariants as of
-use Rattle.sodac_cli.specs.declared.status.Status.{Status}
-use Rattle.sodac_cli.specs.declared.status.Status.TheVariants as is
-use Rattle.sodac_cli.specs.Work.{HasFault, HasInputs, HasParams, HasProgram, RefusesParams, asked_of, files_of, input_count, input_names, is_built, output_count, output_names, program_file, program_of, rows_of, text_names, texts_of, writes_arrays}
+use Rattle.job_status.specs.declared.status.ArrayFault.TheVariants as of
+use Rattle.job_status.specs.declared.status.Status.{Status}
+use Rattle.job_status.specs.declared.status.Status.TheVariants as is
+use Rattle.sodac_cli.specs.Work.{HasFault, HasInputs, HasParams, HasProgram, Product, RefusesParams, array_files, asked_of, files_of, input_count, input_names, is_built, makes, module_file, modules_file, no_files, output_count, output_names, program_file, program_of, rows_of, text_names, texts_of}
 
 -- none of these names stands before it, among `before` and the names themselves
 abbrev pub are_apart : List (List ℕ) → List (List ℕ) → Bool
@@ -43,15 +47,34 @@ passed_limit p rows =
     if nat_lt most_cells (cells_at p rows) then Some (Limit Cells (cells_at p rows))
     else (if nat_lt most_total (total_at p rows) then Some (Limit Total (total_at p rows)) else None)
 
--- the steps that judge an accepted program before any array is asked for
+-- the steps that judge an accepted program before any other file is asked for
 pub data Stage : Type 0 where
   by_names : Stage
+  by_network : Stage
   by_limits : Stage
 
--- the refusal of a step, if it refuses
-abbrev pub refusal_at : Stage → Asked → PlainProgram → Option Status
-refusal_at by_names a p = if names_fit a p then None else Some is.Usage
-refusal_at by_limits a p = option_map (λ r. is.Program r) (passed_limit p (rows_of a))
+-- the status of a limit of networks, with the number that passes it
+abbrev pub limit_status : LimitKind × ℕ → Status
+limit_status passed = is.Program (Limit passed.0 passed.1)
+
+-- what a step answers of an accepted program: the status with which it refuses it, or none. The limits of networks are
+-- those of the network under the delays of the least plan.
+abbrev pub RefusalAt : Stage → Asked → PlainProgram → Option Status → Type 0
+RefusalAt by_names a p refusal = refusal ≡ (if names_fit a p then None else Some is.Usage)
+RefusalAt by_network a p refusal = (delays : List ℕ) × IsLeastPlan (staged_widths p) (staged_reads p) delays
+    × (refusal ≡ option_map limit_status (limit_passed (plan_of p delays)))
+RefusalAt by_limits a p refusal = refusal ≡ option_map (λ r. is.Program r) (passed_limit p (rows_of a))
+
+-- behind a step that refuses no other is tried, and its refusal is that of all; else it is that of those behind it
+abbrev pub RefusalBehind : Option Status → (Option Status → Type 0) → Option Status → Type 0
+RefusalBehind None Next refusal = Next refusal
+RefusalBehind (Some own) Next refusal = refusal ≡ Some own
+
+-- the first refusal of these steps, if one of them refuses
+abbrev pub FirstRefusal : List Stage → Asked → PlainProgram → Option Status → Type 0
+FirstRefusal [] a p refusal = refusal ≡ None
+FirstRefusal (stage ∷ stages) a p refusal = (own : Option Status) × RefusalAt stage a p own
+    × RefusalBehind own (FirstRefusal stages a p) refusal
 
 -- the steps of a mode, in order: `check` and `plan` refuse no accepted program, and the steps of modes that aren't
 -- built come with them
@@ -59,18 +82,13 @@ abbrev pub stages_of : Mode → List Stage
 stages_of Check = []
 stages_of Plain = by_names ∷ by_limits ∷ []
 stages_of Plan = []
-stages_of Compile = []
+stages_of Compile = by_network ∷ []
 stages_of Sim = []
 stages_of Selftest = []
 
--- the first refusal of these steps
-abbrev pub first_refusal : List Stage → Asked → PlainProgram → Option Status
-first_refusal [] a p = None
-first_refusal (stage ∷ stages) a p = or_else (refusal_at stage a p) (first_refusal stages a p)
-
 -- the refusal of an accepted program, if it is refused
-abbrev pub refusal_of : Asked → PlainProgram → Option Status
-refusal_of a p = first_refusal (stages_of a.mode) a p
+abbrev pub RefusalOf : Asked → PlainProgram → Option Status → Type 0
+RefusalOf a p refusal = FirstRefusal (stages_of a.mode) a p refusal
 
 -- over good inputs the job is done; where all inputs are there, the first fault of the first that has one is told
 pub data DueOver (h : Holding) (a : Asked) (p : PlainProgram) : Status → Type 0 where
@@ -85,18 +103,19 @@ pub data DueWith (h : Holding) (a : Asked) (p : PlainProgram) (files : List JobF
   good_params : (values : List ℤ) → HasParams h a p values → files ≡ files_of a p → DueOver h a p status
       → DueWith h a p files status
 
--- what is due where no step refuses the program, by whether the mode writes arrays: else it is done
-abbrev pub DueBy : Bool → Holding → Asked → PlainProgram → List JobFile → Status → Type 0
-DueBy true h a p files status = DueWith h a p files status
-DueBy false h a p files status = (files ≡ program_file a ∷ []) × (status ≡ is.Ok)
+-- what is due where no step refuses the program, by what the mode writes
+abbrev pub DueBy : Product → Holding → Asked → PlainProgram → List JobFile → Status → Type 0
+DueBy no_files h a p files status = (files ≡ program_file a ∷ []) × (status ≡ is.Ok)
+DueBy array_files h a p files status = DueWith h a p files status
+DueBy module_file h a p files status = (files ≡ program_file a ∷ modules_file a ∷ []) × (status ≡ is.Ok)
 
 -- what is due of an accepted program, and the files that are asked for until then, by its refusal
 abbrev pub DueAfter : Option Status → Holding → Asked → PlainProgram → List JobFile → Status → Type 0
-DueAfter None h a p files status = DueBy (writes_arrays a.mode) h a p files status
+DueAfter None h a p files status = DueBy (makes a.mode) h a p files status
 DueAfter (Some refusal) h a p files status = (files ≡ program_file a ∷ []) × (status ≡ refusal)
 
 abbrev pub DueBehind : Holding → Asked → PlainProgram → List JobFile → Status → Type 0
-DueBehind h a p files status = DueAfter (refusal_of a p) h a p files status
+DueBehind h a p files status = (refusal : Option Status) × RefusalOf a p refusal × DueAfter refusal h a p files status
 
 -- what is due of a job that is built, and the files that are asked for until then
 pub data DueOf (h : Holding) (a : Asked) (files : List JobFile) (status : Status) : Type 0 where
@@ -120,15 +139,17 @@ Due h words files status = DueFor h (asked_of words) files status
 
 -- files that a job may have asked for before a fault or want of memory: none, the program's, or, in a mode that writes
 -- arrays, once the program is accepted and no step refuses it, that of the params too, and once the params are good,
--- the first of all
+-- the first of all; in a mode that writes the text of a design, once no step refuses the program, the file of it too
 pub data MayAsk (h : Holding) (a : Asked) (made : List JobFile) : Type 0 where
   asks_none : made ≡ [] → MayAsk h a made
   asks_program : made ≡ program_file a ∷ [] → MayAsk h a made
-  asks_params : writes_arrays a.mode ≡ true → (p : PlainProgram) → HasProgram h a p → refusal_of a p ≡ None
+  asks_params : makes a.mode ≡ array_files → (p : PlainProgram) → HasProgram h a p → RefusalOf a p None
       → made ≡ texts_of a → MayAsk h a made
-  asks_arrays : writes_arrays a.mode ≡ true → (p : PlainProgram) → HasProgram h a p → refusal_of a p ≡ None
+  asks_arrays : makes a.mode ≡ array_files → (p : PlainProgram) → HasProgram h a p → RefusalOf a p None
       → (values : List ℤ) → HasParams h a p values → (rest : List JobFile) → files_of a p ≡ made ++ rest
       → MayAsk h a made
+  asks_module : makes a.mode ≡ module_file → (p : PlainProgram) → HasProgram h a p → RefusalOf a p None
+      → made ≡ program_file a ∷ modules_file a ∷ [] → MayAsk h a made
 
 abbrev pub MayAskIf : Bool → Holding → Asked → List JobFile → Type 0
 MayAskIf true h a made = MayAsk h a made

@@ -1,10 +1,8 @@
 pub mod Work
 pub mod Due
-pub mod Endings
+pub mod Journal
 pub mod Outputs
 pub mod Printed
-pub mod Lines
-pub mod Counts
 pub mod Allowed
 pub mod Correct
 pub mod Machine

@@ -1,12 +1,13 @@
 -- What each name holds after a job.
-use Rattle.std.specs.Prelude.{◌≡◌, ◌⊎◌, ℕ, Bool, true, false, List, [], ◌∷◌, ◌++◌, map, take, All, Option, Some, None, ℤ}
+use Rattle.std.specs.Prelude.{◌≡◌, ◌⊎◌, ℕ, List, [], ◌∷◌, ◌++◌, map, take, All, Option, Some, None, ℤ}
 use Rattle.soda_io.specs.declared.call.FileCall.{FileCall}
 use Rattle.soda_io.specs.Store.{Store}
 use Rattle.soda_ir.specs.Program.{PlainProgram}
 use Rattle.job_files.specs.Contents.{Holding, Holds}
 use Rattle.job_files.specs.Progress.{created}
 use Rattle.command_words.specs.Orders.{Asked}
-use Rattle.sodac_cli.specs.Work.{HasInputs, HasParams, HasProgram, output_names, output_texts, writes_arrays}
+use Rattle.compile_job.specs.Modules.{IsModuleText}
+use Rattle.sodac_cli.specs.Work.{AreTexts, HasInputs, HasParams, HasProgram, Product, array_files, makes, module_file, no_files, output_names, output_texts, target_of}
 
 -- each of the outputs, a name with its bytes, holds a prefix of its text
 abbrev pub ArePrefixes : List (List ℕ × List ℕ) → List (List ℕ) → Type 0
@@ -14,13 +15,12 @@ ArePrefixes [] texts = Unit {0}
 ArePrefixes (output ∷ outputs) [] = ⊥
 ArePrefixes (output ∷ outputs) (text ∷ texts) = ((n : ℕ) × (output.1 ≡ take n text)) × ArePrefixes outputs texts
 
--- the outputs of an accepted program are empty, or over good inputs each holds a prefix of its text
+-- the outputs of an accepted program are empty, or each holds a prefix of its text
 pub record HoldPrefixes (h : Holding) (a : Asked) (outputs : List (List ℕ × List ℕ)) : Type 0 where
   pub plain : PlainProgram
   pub program : HasProgram h a plain
   pub prefixes : All (λ output. output.1 ≡ []) outputs
-      ⊎ ((values : List ℤ) × HasParams h a plain values × (arrays : List (List ℤ)) × HasInputs h a plain arrays
-      × ArePrefixes outputs (output_texts a plain values arrays))
+      ⊎ ((texts : List (List ℕ)) × AreTexts h a plain texts × ArePrefixes outputs texts)
 
 -- the outputs that were created, by what the words ask for
 abbrev pub AreOutputs : Holding → Option Asked → List (List ℕ × List ℕ) → Type 0
@@ -41,14 +41,23 @@ HoldTexts h [] (text ∷ texts) = ⊥
 HoldTexts h (name ∷ names) [] = ⊥
 HoldTexts h (name ∷ names) (text ∷ texts) = (h name ≡ Some text) × HoldTexts h names texts
 
+-- the file of the text holds that of a design of the program
+pub record HoldsModules (old new : Holding) (a : Asked) : Type 0 where
+  pub plain : PlainProgram
+  pub program : HasProgram old a plain
+  pub text : List ℕ
+  pub are : IsModuleText plain text
+  pub holds : new (target_of a) ≡ Some text
+
 -- Where a mode writes arrays: of the one program and the one list of arrays, each output holds its text.
-abbrev pub DeliversIf : Bool → Holding → Holding → Asked → Type 0
-DeliversIf true old new a = (p : PlainProgram) → HasProgram old a p → (values : List ℤ) → HasParams old a p values
-    → (arrays : List (List ℤ)) → HasInputs old a p arrays
+abbrev pub DeliversBy : Product → Holding → Holding → Asked → Type 0
+DeliversBy no_files old new a = Unit {0}
+DeliversBy array_files old new a = (p : PlainProgram) → HasProgram old a p → (values : List ℤ)
+    → HasParams old a p values → (arrays : List (List ℤ)) → HasInputs old a p arrays
     → HoldTexts new (output_names a p) (output_texts a p values arrays)
-DeliversIf false old new a = Unit {0}
+DeliversBy module_file old new a = HoldsModules old new a
 
 -- each output holds its text, by what the words ask for
 abbrev pub Delivers : Holding → Holding → Option Asked → Type 0
 Delivers old new None = Unit {0}
-Delivers old new (Some a) = DeliversIf (writes_arrays a.mode) old new a
+Delivers old new (Some a) = DeliversBy (makes a.mode) old new a

@@ -7,9 +7,10 @@ use Rattle.job_files.specs.Contents.{Holding}
 use Rattle.command_words.specs.declared.mode.Mode.{Mode}
 use Rattle.command_words.specs.declared.mode.Mode.TheVariants.{Check, Plain, Plan, Compile, Sim, Selftest}
 use Rattle.command_words.specs.Orders.{Asked}
-use Rattle.sodac_cli.specs.declared.status.Status.{Status}
-use Rattle.sodac_cli.specs.declared.status.Status.TheVariants as is
-use Rattle.sodac_cli.specs.Endings.{Ending, ending_of, due, file_fault, memory, out_fault}
+use Rattle.job_status.specs.declared.status.Status.{Status}
+use Rattle.job_status.specs.declared.status.Status.TheVariants as is
+use Rattle.job_status.specs.Endings.{Ending, ending_of, due, file_fault, memory, out_fault}
+use Rattle.compile_job.specs.Modules.{IsSizeText}
 use Rattle.sodac_cli.specs.Work.{HasProgram}
 
 -- whether a mode prints anything
@@ -17,17 +18,17 @@ abbrev pub prints : Mode → Bool
 prints Check = true
 prints Plain = false
 prints Plan = true
-prints Compile = false
+prints Compile = true
 prints Sim = false
 prints Selftest = false
 
 -- these are the lines that a mode prints for a program: `check` its canonical text, `plan` its least plan with a
--- certificate, of which there may be several that fit
+-- certificate, of which there may be several that fit, and `compile` the size of its network
 abbrev pub IsPrinted : Mode → PlainProgram → List ℕ → Type 0
 IsPrinted Check p lines = lines ≡ canonical p
 IsPrinted Plain p lines = lines ≡ []
 IsPrinted Plan p lines = IsPlanText p lines
-IsPrinted Compile p lines = lines ≡ []
+IsPrinted Compile p lines = IsSizeText p lines
 IsPrinted Sim p lines = lines ≡ []
 IsPrinted Selftest p lines = lines ≡ []
 

@@ -2,7 +2,7 @@
 -- outputs.
 use Rattle.std.specs.Prelude.{◌≡◌, ◌≢◌, ℕ, zero, suc, ◌+◌, Bool, true, false, not, ◌&&◌, if◌then◌else◌, List, [], ◌∷◌, ◌++◌, map, length, take, drop, Option, Some, None, unwrap_or, ℤ, String, string_bytes}
 use Rattle.std.specs.Global.{Global}
-use Rattle.soda_io.specs.declared.role.FileRole.TheVariants.{Program, Params, Input, Output}
+use Rattle.soda_io.specs.declared.role.FileRole.TheVariants.{Program, Modules, Params, Input, Output}
 use Rattle.soda_words.specs.IntType.{IntType}
 use Rattle.soda_words.specs.Limits.{most_text}
 use Rattle.soda_ir.specs.Program.{PlainProgram, input_types}
@@ -20,6 +20,7 @@ use Rattle.job_files.specs.Files.{JobFile}
 use Rattle.command_words.specs.declared.mode.Mode.{Mode}
 use Rattle.command_words.specs.declared.mode.Mode.TheVariants.{Check, Plain, Plan, Compile, Sim, Selftest}
 use Rattle.command_words.specs.Orders.{Asked, order_of, program, seed}
+use Rattle.compile_job.specs.Modules.{IsModuleText}
 
 -- what the words ask for, and None where they aren't taken
 abbrev pub asked_of : List (String Global) → Option Asked
@@ -30,18 +31,24 @@ abbrev pub is_built_mode : Mode → Bool
 is_built_mode Check = true
 is_built_mode Plain = true
 is_built_mode Plan = true
-is_built_mode Compile = false
+is_built_mode Compile = true
 is_built_mode Sim = false
 is_built_mode Selftest = false
 
--- whether a mode writes the arrays of its outputs
-abbrev pub writes_arrays : Mode → Bool
-writes_arrays Check = false
-writes_arrays Plain = true
-writes_arrays Plan = false
-writes_arrays Compile = false
-writes_arrays Sim = true
-writes_arrays Selftest = false
+-- what a job writes to files
+pub data Product : Type 0 where
+  no_files : Product
+  array_files : Product
+  module_file : Product
+
+-- what each mode writes: nothing, the arrays of its outputs, or the text of its modules
+abbrev pub makes : Mode → Product
+makes Check = no_files
+makes Plain = array_files
+makes Plan = no_files
+makes Compile = module_file
+makes Sim = array_files
+makes Selftest = no_files
 
 -- all that is asked for is built: sharing isn't so far
 abbrev pub is_built : Asked → Bool
@@ -54,6 +61,10 @@ form_of a = if a.raw then Raw else Text
 -- the name of the program's file
 abbrev pub program_of : Asked → List ℕ
 program_of a = elim a.source [ program name ↦ name | seed n ↦ [] ]
+
+-- the name of the file that the text of a design is written to
+abbrev pub target_of : Asked → List ℕ
+target_of a = unwrap_or a.target []
 
 -- the last extent of the arrays
 abbrev pub rows_of : Asked → ℕ
@@ -98,6 +109,10 @@ program_file a = record { role = Program; opened = true; name = program_of a }
 abbrev pub params_file : List ℕ → JobFile
 params_file name = record { role = Params; opened = true; name = name }
 
+-- the file that the text of a design is written to
+abbrev pub modules_file : Asked → JobFile
+modules_file a = record { role = Modules; opened = false; name = target_of a }
+
 -- the texts of a job, in order: the params are the second where they are given
 abbrev pub texts_of : Asked → List JobFile
 texts_of a = program_file a ∷ map params_file (if_given a.params)
@@ -105,7 +120,7 @@ texts_of a = program_file a ∷ map params_file (if_given a.params)
 abbrev pub text_count : Asked → ℕ
 text_count a = 1 + length (if_given a.params)
 
--- the files of a job in order; the number of inputs is the program's
+-- the files of a job that writes arrays, in order; the number of inputs is the program's
 abbrev pub files_of : Asked → PlainProgram → List JobFile
 files_of a p = texts_of a ++ (inputs_from 0 (input_names a p) ++ outputs_from 0 (output_names a p))
 
@@ -191,3 +206,13 @@ texts_from form run (ty ∷ types) (cells ∷ arrays) = array_bytes form ty run 
 abbrev pub output_texts : Asked → PlainProgram → List ℤ → List (List ℤ) → List (List ℕ)
 output_texts a p params arrays =
     texts_from (form_of a) (run_of p) (output_types p.tensors) (defined_arrays p (rows_of a) params arrays)
+
+-- these are texts of the files that a job writes, in order, by what it writes
+abbrev pub AreTextsBy : Product → Holding → Asked → PlainProgram → List (List ℕ) → Type 0
+AreTextsBy no_files h a p texts = texts ≡ []
+AreTextsBy array_files h a p texts = (values : List ℤ) × HasParams h a p values × (arrays : List (List ℤ))
+    × HasInputs h a p arrays × (texts ≡ output_texts a p values arrays)
+AreTextsBy module_file h a p texts = (text : List ℕ) × IsModuleText p text × (texts ≡ text ∷ [])
+
+abbrev pub AreTexts : Holding → Asked → PlainProgram → List (List ℕ) → Type 0
+AreTexts h a p texts = AreTextsBy (makes a.mode) h a p texts

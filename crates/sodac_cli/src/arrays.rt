@@ -6,7 +6,7 @@ ghost use Rattle.job_files.specs.Files.{ids_from, names_of};
 ghost use Rattle.command_words.specs.Orders.{Asked};
 ghost use Rattle.sodac_cli.specs.Allowed.{AllowsPlain};
 ghost use Rattle.sodac_cli.specs.Correct.{Runs};
-ghost use Rattle.sodac_cli.specs.Counts.{FileFaults};
+ghost use Rattle.job_status.specs.Counts.{FileFaults};
 ghost use Rattle.sodac_cli.specs.Machine.Steps.{IsGathering, IsOpened, IsSettled};
 ghost use Rattle.sodac_cli.specs.Work.{input_names, output_names};
 

@@ -9,7 +9,7 @@ ghost use Rattle.job_arrays.specs.Arrays.{FillBurst};
 ghost use Rattle.command_words.specs.Orders.{Asked};
 ghost use Rattle.sodac_cli.specs.Allowed.{AllowsPlain};
 ghost use Rattle.sodac_cli.specs.Correct.{Runs};
-ghost use Rattle.sodac_cli.specs.Counts.{FileFaults};
+ghost use Rattle.job_status.specs.Counts.{FileFaults};
 ghost use Rattle.sodac_cli.specs.Machine.Steps.{IsWriting, WritesOutput, WritesOutputs};
 
 use crate::Status;

@@ -8,8 +8,8 @@ ghost use Rattle.job_files.specs.Files.{names_of};
 ghost use Rattle.command_words.specs.Orders.{asked};
 ghost use Rattle.command_words.specs.declared.mode.Mode.{Mode as PlainMode};
 ghost use Rattle.sodac_cli.specs.Allowed.{AllowsPlain};
-ghost use Rattle.sodac_cli.specs.Due.{are_apart, names_fit, passed_limit, refusal_of};
-ghost use Rattle.sodac_cli.specs.Endings.{due, ending_of};
+ghost use Rattle.sodac_cli.specs.Due.{RefusalOf, are_apart, names_fit, passed_limit};
+ghost use Rattle.job_status.specs.Endings.{due, ending_of};
 ghost use Rattle.sodac_cli.specs.Machine.Steps.{LetsPass};
 ghost use Rattle.sodac_cli.specs.Work.{if_given, input_count, output_count, program_of, text_names};
 
@@ -135,7 +135,7 @@ fn passed_limit(program: &Program, rows: u64) -> Option<Refusal>
 pub(crate) fn judge(order: &Order<'_>, program: &Program) -> Result<(), Status>
     requires { order.now.mode ≡ PlainMode.Plain }
     ensures passes { OnOk result (LetsPass (asked order.now) (plain program.now)) }
-    ensures refuses { IfErr result (λ status. refusal_of (asked order.now) (plain program.now) ≡ Some status) }
+    ensures refuses { IfErr result (λ status. RefusalOf (asked order.now) (plain program.now) (Some status)) }
     ensures allowed { IfErr result (λ status. AllowsPlain status) }
     ensures judged { IfErr result (λ status. ending_of status ≡ due) }
 {

@@ -3,8 +3,9 @@ ghost use Rattle.std.specs.Global.{Global};
 ghost use Rattle.job_files.specs.Contents.{Holding};
 ghost use Rattle.job_files.specs.Files.{JobFile};
 ghost use Rattle.sodac_cli.specs.Due.{Due};
-ghost use Rattle.sodac_cli.specs.declared.status.Status.{Status as Ended};
+ghost use Rattle.job_status.specs.declared.status.Status.{Status as Ended};
 
+use flow_solve::least_plans_meet;
 use param_lines::params_are_one;
 use soda_parse::texts_are_one;
 
@@ -14,5 +15,6 @@ pub fn only_one_is_due()
         → Due holding words files one → Due holding words others other → (one ≡ other) × (files ≡ others) }
 {
     texts_are_one();
-    params_are_one()
+    params_are_one();
+    least_plans_meet()
 }

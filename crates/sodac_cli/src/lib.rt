@@ -2,20 +2,18 @@
 #![tactic(auto)]
 
 mod arrays;
+mod compile;
 mod delivering;
 mod gathering;
 mod judging;
 mod laws;
-mod messages;
 mod params;
 mod plain;
 mod printing;
 mod program;
-mod report;
-mod status;
 mod top;
 mod types;
 
+pub use job_status::{ArrayFault, Status};
 pub use laws::only_one_is_due;
-pub use status::{ArrayFault, Status};
 pub use top::execute;

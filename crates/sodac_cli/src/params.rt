@@ -6,7 +6,7 @@ ghost use Rattle.soda_eval.specs.Runs.{HasValues, place_types};
 ghost use Rattle.command_words.specs.Orders.{Asked};
 ghost use Rattle.sodac_cli.specs.Allowed.{AllowsPlain};
 ghost use Rattle.sodac_cli.specs.Correct.{Runs};
-ghost use Rattle.sodac_cli.specs.Counts.{FileFaults};
+ghost use Rattle.job_status.specs.Counts.{FileFaults};
 ghost use Rattle.sodac_cli.specs.Machine.Steps.{IsJudged, IsRead, IsSettled};
 ghost use Rattle.sodac_cli.specs.Machine.Text.{HasLines, unread_lines};
 ghost use Rattle.sodac_cli.specs.Work.{if_given};

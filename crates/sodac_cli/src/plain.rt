@@ -10,7 +10,7 @@ ghost use Rattle.command_words.specs.declared.mode.Mode.{Mode as PlainMode};
 ghost use Rattle.command_words.specs.Orders.{Asked, asked};
 ghost use Rattle.sodac_cli.specs.Allowed.{AllowsPlain};
 ghost use Rattle.sodac_cli.specs.Correct.{Runs};
-ghost use Rattle.sodac_cli.specs.Counts.{FileFaults};
+ghost use Rattle.job_status.specs.Counts.{FileFaults};
 ghost use Rattle.sodac_cli.specs.Machine.Steps.{IsGathering, IsRead, IsReady, IsSettled, LetsPass};
 ghost use Rattle.sodac_cli.specs.Work.{input_count, input_names, is_built, output_count, output_names, rows_of};
 

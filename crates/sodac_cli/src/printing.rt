@@ -5,7 +5,7 @@ ghost use Rattle.job_files.specs.Contents.{Holding};
 ghost use Rattle.command_words.specs.Orders.{Asked, asked};
 ghost use Rattle.sodac_cli.specs.Allowed.{AllowsPrinting};
 ghost use Rattle.sodac_cli.specs.Correct.{Runs};
-ghost use Rattle.sodac_cli.specs.Counts.{FileFaults, OutFaults};
+ghost use Rattle.job_status.specs.Counts.{FileFaults, OutFaults};
 ghost use Rattle.sodac_cli.specs.Machine.Steps.{IsRead, OnlyPrints};
 ghost use Rattle.sodac_cli.specs.Printed.{IsPrinted, Prints};
 ghost use Rattle.sodac_cli.specs.Work.{HasProgram, is_built};
@@ -23,6 +23,7 @@ use whole_files::put_whole;
 
 // The lines that a mode prints for a program.
 fn lines_of(alloc: Global, mode: Mode, program: &Program) -> Result<Vec<u8>, NoMemory>
+    requires { OnlyPrints mode }
     ensures { IfOk result (λ lines. IsPrinted mode (plain program.now) lines.items) }
 {
     match mode {
@@ -34,6 +35,7 @@ fn lines_of(alloc: Global, mode: Mode, program: &Program) -> Result<Vec<u8>, NoM
 
 // Prints the lines of a mode that only prints, for a program.
 fn print_lines<S: Sink>(alloc: Global, mode: Mode, program: &Program, out: &mut S) -> Status
+    requires only { OnlyPrints mode }
     ensures runs { (first : ℕ) (begun : Store) (a : Asked) (given : ℕ) (now : Store) → OnlyPrints a.mode
         → is_built a ≡ true → IsRead first begun a (plain program.now) given now
         → Runs first begun (Some a) given now result }

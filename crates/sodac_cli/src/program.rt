@@ -3,7 +3,7 @@ ghost use Rattle.std.specs.Result.{IfErr};
 ghost use Rattle.soda_ir.specs.Program.{plain};
 ghost use Rattle.command_words.specs.Orders.{Asked};
 ghost use Rattle.sodac_cli.specs.Correct.{Runs};
-ghost use Rattle.sodac_cli.specs.Counts.{FileFaults};
+ghost use Rattle.job_status.specs.Counts.{FileFaults};
 ghost use Rattle.sodac_cli.specs.Machine.Steps.{IsRead};
 ghost use Rattle.sodac_cli.specs.Machine.Text.{HasText, IsOfText, unread_status};
 ghost use Rattle.sodac_cli.specs.Work.{is_built, program_of};

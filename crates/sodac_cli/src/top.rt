@@ -3,17 +3,18 @@ ghost use Rattle.soda_io.specs.Cause.{Rose};
 ghost use Rattle.command_words.specs.Orders.{HasForm, asked, parts_of};
 ghost use Rattle.sodac_cli.specs.Allowed.{Allows, is_silent};
 ghost use Rattle.sodac_cli.specs.Correct.{Completes, IsDue, Runs};
-ghost use Rattle.sodac_cli.specs.Counts.{FileFaults, OutFaults};
-ghost use Rattle.sodac_cli.specs.Lines.{Reports};
+ghost use Rattle.job_status.specs.Counts.{FileFaults, OutFaults};
+ghost use Rattle.job_status.specs.Lines.{Reports};
 ghost use Rattle.sodac_cli.specs.Printed.{Prints};
 ghost use Rattle.sodac_cli.specs.Work.{asked_of, is_built};
 
 use crate::Status;
+use crate::compile::compile;
 use crate::laws::only_one_is_due;
 use crate::plain::plain;
 use crate::printing::print_job;
-use crate::report::report;
 use command_words::{Mode, Order, OrderFail, read_order};
+use job_status::report;
 use soda_io::{Files, Sink};
 use std::alloc::Global;
 
@@ -22,8 +23,8 @@ fn is_built(order: &Order<'_>) -> bool
     ensures { result ≡ is_built (asked order.now) }
 {
     let mode = match order.mode {
-        Mode::Check | Mode::Plain | Mode::Plan => true,
-        Mode::Compile | Mode::Sim | Mode::Selftest => false,
+        Mode::Check | Mode::Plain | Mode::Plan | Mode::Compile => true,
+        Mode::Sim | Mode::Selftest => false,
     };
     mode && !order.share
 }
@@ -48,7 +49,8 @@ fn run<F: Files, S: Sink>(alloc: Global, order: &Order<'_>, files: &mut F, out: 
         Mode::Check => print_job(alloc, order, files, out),
         Mode::Plan => print_job(alloc, order, files, out),
         Mode::Plain => plain(alloc, order, files),
-        Mode::Compile | Mode::Sim | Mode::Selftest => Status::NotYetBuilt,
+        Mode::Compile => compile(alloc, order, files, out),
+        Mode::Sim | Mode::Selftest => Status::NotYetBuilt,
     }
 }
 

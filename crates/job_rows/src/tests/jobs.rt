@@ -42,6 +42,21 @@ const PLANNED: &[u8] =
 read 0 reader 1 of 0 offset -1 age 2 hold 8 need 0\nread 1 reader 1 of 0 offset 0 age 1 hold 0 need 0\n\
 read 2 reader 1 of 0 offset 1 age 0 hold 0 need 8\ntotal bits 16\n";
 
+// The text of its design: of the certificates one fits.
+const MODULES: &[u8] =
+    b"soda 1\nprogram 7\nkernel: sum3\nburst width: 8\nunroll factor: 1\niterate: 1\n\
+border: ignore\ninput uint8: a(*)\noutput uint8: o(0) = a(-1) + a(0) + a(1)\n\
+tensor 0 a@1 uint8 delay 0 storage 2\ntensor 1 o@1 uint8 delay 1 storage 0\n\
+read 0 reader 1 of 0 offset -1 age 2 hold 8 need 0\nread 1 reader 1 of 0 offset 0 age 1 hold 0 need 0\n\
+read 2 reader 1 of 0 offset 1 age 0 hold 0 need 8\ntotal bits 16\n\
+module 0 forward 0 0 2\nmodule 1 forward 0 0 1\nmodule 2 source 0\nmodule 3 forward 0 0 0\nmodule 4 compute 1 0\n\
+module 5 sink 1\nqueue 0 from 0 to 4 port 0 capacity 1 lead 2\nqueue 1 from 1 to 0 port 0 capacity 1 lead 0\n\
+queue 2 from 1 to 4 port 1 capacity 1 lead 1\nqueue 3 from 2 to 3 port 0 capacity 1 lead 0\n\
+queue 4 from 3 to 1 port 0 capacity 1 lead 0\nqueue 5 from 3 to 4 port 2 capacity 1 lead 0\n\
+queue 6 from 4 to 5 port 0 capacity 1 lead 0\nend\n";
+
+const SIZE: &[u8] = b"modules 6\nqueues 7\nstorage 16\n";
+
 // The cells `i`.
 const CELLS: &[u8] = b"1\n2\n4\n8\n16\n";
 
@@ -52,6 +67,12 @@ const PLAIN: &str = "sodac plain p 5 i o";
 const CHECK: &str = "sodac check p";
 
 const PLAN: &str = "sodac plan p";
+
+const COMPILE: &str = "sodac compile p o";
+
+const FILE: Status = Status::FileFault(FileRole::Modules);
+
+const OF_FILE: [&[u8]; 2] = [b"", b"sodac: file fault: modules\n"];
 
 const IN: Status = Status::FileFault(FileRole::Input(0));
 
@@ -163,6 +184,48 @@ const ROWS: &[Row] = &[
         (1, &[]),
         Status::OutFault,
         [b"kernel sum", FAULT],
+        None,
+        b"orr",
+    ),
+    // The file of a design is created once that is made, and the lines are printed once it is written.
+    (
+        COMPILE,
+        &[],
+        ALL,
+        Status::Ok,
+        [SIZE, b""],
+        Some(MODULES),
+        b"orrcw",
+    ),
+    (COMPILE, &[0], ALL, TEXT, OF_TEXT, None, b"o"),
+    (COMPILE, &[1], ALL, TEXT, OF_TEXT, None, b"or"),
+    (COMPILE, &[2], ALL, TEXT, OF_TEXT, None, b"orr"),
+    (COMPILE, &[3], ALL, FILE, OF_FILE, None, b"orrc"),
+    (COMPILE, &[4], ALL, FILE, OF_FILE, Some(NOTHING), b"orrcw"),
+    (
+        COMPILE,
+        &[],
+        (0, &[]),
+        Status::OutFault,
+        [b"", FAULT],
+        Some(MODULES),
+        b"orrcw",
+    ),
+    (
+        COMPILE,
+        &[],
+        (1, &[]),
+        Status::OutFault,
+        [b"modules 6\n", FAULT],
+        Some(MODULES),
+        b"orrcw",
+    ),
+    (
+        "sodac compile i o",
+        &[],
+        ALL,
+        Status::Program(Refusal::Syntax(1)),
+        SYNTAX,
         None,
         b"orr",
     ),

@@ -1,5 +1,5 @@
 -- Where a job stands between its steps.
-use Rattle.std.specs.Prelude.{◌≡◌, ℕ, zero, suc, ◌+◌, ◌≤◌, ◌<◌, true, false, List, [], ◌∷◌, ◌++◌, map, take, length, slice_index_or, All, None, ℤ}
+use Rattle.std.specs.Prelude.{◌≡◌, ℕ, zero, suc, ◌+◌, ◌≤◌, ◌<◌, true, List, [], ◌∷◌, ◌++◌, map, take, length, slice_index_or, All, None, ℤ}
 use Rattle.soda_io.specs.Store.{KeepsBytes, Store}
 use Rattle.soda_words.specs.IntType.{IntType, int32}
 use Rattle.soda_words.specs.Limits.{most_cells}
@@ -12,20 +12,20 @@ use Rattle.job_files.specs.Files.{JobFile, ids_from}
 use Rattle.job_files.specs.Progress.{Progress}
 use Rattle.command_words.specs.declared.mode.Mode.{Mode}
 use Rattle.command_words.specs.Orders.{Asked}
-use Rattle.sodac_cli.specs.Due.{are_apart, refusal_of, stages_of}
-use Rattle.sodac_cli.specs.Endings.{ReadsFew}
+use Rattle.sodac_cli.specs.Due.{RefusalOf, are_apart, stages_of}
+use Rattle.sodac_cli.specs.Journal.{ReadsFew}
 use Rattle.sodac_cli.specs.Printed.{prints}
-use Rattle.sodac_cli.specs.Work.{HasInputs, HasParams, HasProgram, HoldCells, files_of, form_of, input_count, input_names, inputs_from, is_built, output_count, output_names, output_texts, program_file, rows_of, run_of, text_count, text_names, texts_of, writes_arrays}
+use Rattle.sodac_cli.specs.Work.{HasInputs, HasParams, HasProgram, HoldCells, array_files, files_of, form_of, input_count, input_names, inputs_from, is_built, makes, no_files, output_count, output_names, output_texts, program_file, rows_of, run_of, text_count, text_names, texts_of}
 
--- a mode that prints, judges no accepted program and writes no arrays
+-- a mode that prints, judges no accepted program and writes no files
 pub record OnlyPrints (mode : Mode) : Type 0 where
   pub out : prints mode ≡ true
   pub no_steps : stages_of mode ≡ []
-  pub no_arrays : writes_arrays mode ≡ false
+  pub writes : makes mode ≡ no_files
 
 -- no step refuses a program in `plain`
 pub record LetsPass (a : Asked) (p : PlainProgram) : Type 0 where
-  pub none : refusal_of a p ≡ None
+  pub none : RefusalOf a p None
   pub few : cells_at p (rows_of a) ≤ most_cells
   pub count : length a.names ≡ input_count p + output_count p
   pub apart : are_apart (text_names a ++ input_names a p) (output_names a p) ≡ true
@@ -33,7 +33,7 @@ pub record LetsPass (a : Asked) (p : PlainProgram) : Type 0 where
 -- what holds of a job whose program is judged
 pub record IsJudged (h : Holding) (a : Asked) (p : PlainProgram) : Type 0 where
   pub built : is_built a ≡ true
-  pub arrays : writes_arrays a.mode ≡ true
+  pub arrays : makes a.mode ≡ array_files
   pub program : HasProgram h a p
   pub pass : LetsPass a p
 

@@ -10,10 +10,10 @@ use Rattle.whole_files.specs.declared.reading.ReadFail.{ReadFail}
 use Rattle.whole_files.specs.declared.reading.ReadFail.TheVariants.{TooLong, Failed, Memory}
 use Rattle.job_files.specs.Progress.{Progress}
 use Rattle.command_words.specs.Orders.{Asked}
-use Rattle.sodac_cli.specs.declared.status.ArrayFault.TheVariants as of
-use Rattle.sodac_cli.specs.declared.status.Status.{Status}
-use Rattle.sodac_cli.specs.declared.status.Status.TheVariants as is
-use Rattle.sodac_cli.specs.Endings.{ReadsFew}
+use Rattle.job_status.specs.declared.status.ArrayFault.TheVariants as of
+use Rattle.job_status.specs.declared.status.Status.{Status}
+use Rattle.job_status.specs.declared.status.Status.TheVariants as is
+use Rattle.sodac_cli.specs.Journal.{ReadsFew}
 use Rattle.sodac_cli.specs.Machine.Steps.{HasAsked, IsJudged}
 use Rattle.sodac_cli.specs.Work.{program_file, program_of, text_count, texts_of}
 

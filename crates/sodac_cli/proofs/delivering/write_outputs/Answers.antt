@@ -2,7 +2,7 @@ use Rattle.std.proofs.Common.{◌≡◌, ◌<◌, ℕ, List, [], ℤ, length, ge
 use Rattle.std.proofs.lemmas.List.{get_or_default}
 use Rattle.soda_words.specs.IntType.{IntType}
 use Rattle.soda_eval.specs.Runs.{IsArray}
-use Rattle.sodac_cli.specs.Counts.{FileFaults}
+use Rattle.job_status.specs.Counts.{FileFaults}
 use Rattle.sodac_cli.proofs.Written.{all_written}
 use Rattle.sodac_cli.proofs.Numbers.{as_many_outputs, next_output}
 use Rattle.sodac_cli.proofs.Typed.{array_at, as_many}

@@ -1,9 +1,9 @@
 use Rattle.std.proofs.Common.{Err, Some, sym, ap, subst}
 use Rattle.array_bytes.specs.declared.fault.CellFault.{CellFault}
-use Rattle.sodac_cli.specs.declared.status.Status.{Status}
+use Rattle.job_status.specs.declared.status.Status.{Status}
 use Rattle.sodac_cli.specs.Allowed.{AllowsPlain}
 use Rattle.sodac_cli.specs.Correct.{Runs}
-use Rattle.sodac_cli.specs.Counts.{FileFaults}
+use Rattle.job_status.specs.Counts.{FileFaults}
 use Rattle.sodac_cli.proofs.Gathered.{gathered, input_ends, input_next, input_opened, input_unread}
 use Rattle.sodac_cli.proofs.InputFaults.{input_allowed, input_faults}
 use Rattle.sodac_cli.proofs.gathering.read_input.Goals as goal

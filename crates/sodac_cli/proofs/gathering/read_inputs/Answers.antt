@@ -1,7 +1,7 @@
 use Rattle.std.proofs.Common.{◌<◌, ◌+◌, ℕ, List, [], ℤ, length, take, refl, sym, subst, ◌∙◌, arith}
 use Rattle.soda_words.specs.IntType.{IntType}
 use Rattle.soda_eval.specs.Runs.{HasArrays, IsArray}
-use Rattle.sodac_cli.specs.Counts.{FileFaults}
+use Rattle.job_status.specs.Counts.{FileFaults}
 use Rattle.sodac_cli.specs.Machine.Steps.{IsGathering}
 use Rattle.sodac_cli.proofs.Gathered.{all_gathered, gathering_memory}
 use Rattle.sodac_cli.proofs.Numbers.{as_many_ids, next_input}

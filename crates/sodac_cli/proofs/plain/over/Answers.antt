@@ -2,9 +2,9 @@ use Rattle.std.proofs.Common.{ℕ, List, ℤ, refl, subst, sym, ap}
 use Rattle.soda_ir.specs.Program.{plain}
 use Rattle.soda_eval.specs.Runs.{HasValues, place_types}
 use Rattle.command_words.specs.Orders.{asked}
-use Rattle.sodac_cli.specs.Counts.{FileFaults}
+use Rattle.job_status.specs.Counts.{FileFaults}
 use Rattle.sodac_cli.specs.Machine.Steps.{IsJudged, IsSettled}
-use Rattle.sodac_cli.specs.Work.{writes_arrays}
+use Rattle.sodac_cli.specs.Work.{makes}
 use Rattle.sodac_cli.proofs.Refused.{refused_allowed, refused_faults, refused_runs}
 use Rattle.sodac_cli.proofs.plain.over.Goals as goal
 
@@ -26,7 +26,7 @@ with_params-status-requires-clause-settled g c = λ told.
     let p = plain c.args.program.now in
     let r = c.requires.read told in
     let judged : IsJudged r.1.bytes a p =
-    record { built = c.requires.built; arrays = ap writes_arrays c.requires.mode; program = r.2.program; pass = c.in_default.ensures.passes } in
+    record { built = c.requires.built; arrays = ap makes c.requires.mode; program = r.2.program; pass = c.in_default.ensures.passes } in
     let P : List ℤ → Type 0 = λ v. IsSettled r.0 r.1 a p (g.F.Files.given c.param_values.new.files) (g.F.Files.store c.param_values.new.files) v in
     (r.0, r.1, subst P (sym c.deref.ensures.value) (c.in-Ok.ensures.goes told r.0 r.1 a refl judged r.2))
 
@@ -40,7 +40,7 @@ returns-in-Ok-clause-runs g c = λ told first begun w.
     let a = asked c.args.order.now in
     let p = plain c.args.program.now in
     let judged : IsJudged begun.bytes a p =
-    record { built = c.requires.built; arrays = ap writes_arrays c.requires.mode; program = w.program; pass = c.in_default.ensures.passes } in
+    record { built = c.requires.built; arrays = ap makes c.requires.mode; program = w.program; pass = c.in_default.ensures.passes } in
     let P : List ℤ → Type 0 = λ v. IsSettled first begun a p (g.F.Files.given c.param_values.new.files) (g.F.Files.store c.param_values.new.files) v in
     c.with_params-status.ensures.runs told first begun (subst P (sym c.deref.ensures.value) (c.in-Ok.ensures.goes told first begun a refl judged w))
 
@@ -54,5 +54,5 @@ returns-in-Err-param_values-clause-runs g c = λ told first begun w.
     let a = asked c.args.order.now in
     let p = plain c.args.program.now in
     let judged : IsJudged begun.bytes a p =
-    record { built = c.requires.built; arrays = ap writes_arrays c.requires.mode; program = w.program; pass = c.in_default.ensures.passes } in
+    record { built = c.requires.built; arrays = ap makes c.requires.mode; program = w.program; pass = c.in_default.ensures.passes } in
     c.in-Err-param_values.ensures.ends told first begun a refl judged w

@@ -1,6 +1,6 @@
 use Rattle.std.proofs.Common.{ℕ, sym, subst}
 use Rattle.command_words.specs.Orders.{asked}
-use Rattle.sodac_cli.specs.Counts.{FileFaults}
+use Rattle.job_status.specs.Counts.{FileFaults}
 use Rattle.sodac_cli.proofs.Permitted.{text_in_plain}
 use Rattle.sodac_cli.proofs.plain.plain.Goals as goal
 

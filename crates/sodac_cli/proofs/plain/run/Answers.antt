@@ -5,7 +5,7 @@ use Rattle.soda_ir.specs.Valid.{output_types}
 use Rattle.soda_eval.specs.Runs.{HasArrays, cells_at, defined_arrays}
 use Rattle.job_arrays.specs.declared.layout.Layout.{Layout}
 use Rattle.command_words.specs.Orders.{asked}
-use Rattle.sodac_cli.specs.Counts.{FileFaults}
+use Rattle.job_status.specs.Counts.{FileFaults}
 use Rattle.sodac_cli.proofs.Numbers.{to_read, to_write}
 use Rattle.sodac_cli.proofs.Written.{unwritten_memory}
 use Rattle.sodac_cli.proofs.plain.run.Goals as goal

@@ -2,7 +2,7 @@ use Rattle.std.proofs.Common.{ℕ, List, Bor, length, ap, subst, ◌∙◌, arit
 use Rattle.std.proofs.lemmas.List.{length-map}
 use Rattle.soda_ir.specs.Program.{plain}
 use Rattle.command_words.specs.Orders.{asked}
-use Rattle.sodac_cli.specs.Counts.{FileFaults}
+use Rattle.job_status.specs.Counts.{FileFaults}
 use Rattle.sodac_cli.proofs.Numbers.{front_length, given_below, given_length, made_ready, rest_length}
 use Rattle.sodac_cli.proofs.Ready.{inputs_named, outputs_named}
 use Rattle.sodac_cli.proofs.plain.with_params.Goals as goal

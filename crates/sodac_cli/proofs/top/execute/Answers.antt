@@ -1,8 +1,8 @@
 use Rattle.std.proofs.Common.{◌≡◌, ◌⊎◌, refl, inr}
-use Rattle.sodac_cli.specs.declared.status.Status.TheVariants as is
+use Rattle.job_status.specs.declared.status.Status.TheVariants as is
 use Rattle.sodac_cli.specs.Correct.{IsDue, Runs}
-use Rattle.sodac_cli.specs.Counts.{FileFaults, OutFaults}
-use Rattle.sodac_cli.specs.Endings.{ending_of}
+use Rattle.job_status.specs.Counts.{FileFaults, OutFaults}
+use Rattle.job_status.specs.Endings.{ending_of}
 use Rattle.sodac_cli.specs.Printed.{Prints}
 use Rattle.sodac_cli.specs.Work.{asked_of}
 use Rattle.sodac_cli.proofs.Completed.{completed, due_of_journal}

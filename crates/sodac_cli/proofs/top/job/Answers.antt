@@ -1,7 +1,7 @@
 use Rattle.std.proofs.Common.{Option, Err, sym, ap, subst}
 use Rattle.command_words.specs.declared.order.OrderFail.{OrderFail}
 use Rattle.command_words.specs.Orders.{Asked}
-use Rattle.sodac_cli.specs.declared.status.Status.TheVariants as is
+use Rattle.job_status.specs.declared.status.Status.TheVariants as is
 use Rattle.sodac_cli.specs.Correct.{Runs}
 use Rattle.sodac_cli.specs.Printed.{Prints}
 use Rattle.sodac_cli.specs.Work.{asked_of}
