@@ -34,7 +34,8 @@ end_words q = codes " from " ++ (decimal q.from ++ (codes " to " ++ decimal q.to
 -- the port of a queue, its capacity and its lead
 abbrev pub port_words : Queue → List ℕ
 port_words q =
-    codes " port " ++ (decimal q.port ++ (codes " capacity " ++ (decimal q.capacity ++ (codes " lead " ++ decimal q.lead))))
+    codes " port " ++ (decimal q.port ++ (codes " capacity " ++ (decimal q.capacity
+    ++ (codes " lead " ++ decimal q.lead))))
 
 -- the line of a queue
 abbrev pub queue_line : (number : ℕ) → Queue → List ℕ

@@ -38,8 +38,8 @@ fn read_front(alloc: Global, number: usize, read: Read, age: u64) -> Result<Vec<
     Ok(text)
 }
 
-/// The delay and the storage that the line of the staged tensor of this number tells, in this order, and the text behind
-/// it, if the text goes on with such a line.
+/// The delay and the storage that the line of the staged tensor of this number tells, in this order, and the text
+/// behind it, if the text goes on with such a line.
 pub fn tensor_told<'a>(
     alloc: Global,
     text: &'a [u8],

@@ -4,8 +4,8 @@ use thiserror::Error;
 /// Why bytes give no design.
 #[derive(Clone, Copy, Debug, PartialEq, Eq, Error)]
 pub enum TextFail {
-    /// They are no text of a design. The line of this number, counted from 1, is the first that breaks its rule; it is 0
-    /// where there are too many bytes.
+    /// They are no text of a design. The line of this number, counted from 1, is the first that breaks its rule; it is
+    /// 0 where there are too many bytes.
     #[error("line {0} is refused")]
     Refused(u64),
     /// Memory was refused.

@@ -5,11 +5,8 @@ use Rattle.soda_words.specs.Tokens.{is_number, value_behind}
 use Rattle.soda_ir.specs.Counts.{is_input, is_output}
 use Rattle.soda_ir.specs.Program.{PlainProgram}
 use Rattle.param_lines.specs.Lines.{rows_of}
+use Rattle.sim_lines.specs.Limits.{most_stall_bytes}
 use Rattle.sim_lines.specs.declared.stall.Stall.{Stall}
-
--- the bytes of a stall file, at the most
-abbrev pub most_stall_bytes : ℕ
-most_stall_bytes = 1048576
 
 -- the tensor of this number is an input or an output
 abbrev pub is_end : PlainProgram → ℕ → Bool

@@ -13,7 +13,8 @@ fn add_field<I: Integer>(text: &mut Vec<u8>, word: &[u8], number: I) -> Result<(
     text.extend_from_slice(buffer.format(number).as_bytes())
 }
 
-/// Adds the line of a cycle: its number, from 0, how many modules fired, and how many had a firing left and didn't fire.
+/// Adds the line of a cycle: its number, from 0, how many modules fired, and how many had a firing left and didn't
+/// fire.
 /// The only error is that memory ran out.
 pub fn add_cycle_line(text: &mut Vec<u8>, cycle: u64, fired: u32, held: u32) -> Result<(), NoMemory>
     ensures { OnOk result (text.new.items ≡ text.old.items ++ cycle_line cycle fired held) }

@@ -6,14 +6,12 @@ ghost use Rattle.param_lines.specs.Lines.{rows_of};
 ghost use Rattle.sim_lines.specs.Stalls.{end_named, first_wrong, is_end, is_fine, refused_line, stall_of};
 
 use crate::NoMemory;
+use crate::limits::MOST_STALL_BYTES;
 use crate::stall::Stall;
 use param_lines::{LineFail, next_run, split_line};
 use soda_ir::{Parts, Program, Tensor};
 use soda_words::{NameTable, number};
 use std::alloc::Global;
-
-/// The most bytes of a stall file.
-pub const MOST_STALL_BYTES: usize = 1_048_576;
 
 // The names of tensors, in order.
 fn names_of(alloc: Global, tensors: &[Tensor]) -> Result<NameTable<'_>, NoMemory>
