@@ -2,7 +2,7 @@
 use Rattle.std.proofs.Common.{◌≡◌, ℕ, List, None, sym, subst}
 use Rattle.net_build.specs.Limits.{limit_passed}
 use Rattle.net_build.specs.Planned.{plan_of}
-use Rattle.soda_design.specs.Designs.{PlainDesign}
+use Rattle.module_text.specs.Designs.{PlainDesign}
 use Rattle.soda_ir.specs.Program.{PlainProgram}
 use Rattle.module_text.specs.Texts.{IsDesignText, version_1}
 use Rattle.compile_job.specs.Modules.{IsModuleText, IsSizeText, PassesLimit, size_lines}

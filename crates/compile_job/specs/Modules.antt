@@ -9,7 +9,7 @@ use Rattle.time_stages.specs.Staged.{staged_reads, staged_widths}
 use Rattle.net_build.specs.Limits.{limit_passed}
 use Rattle.net_build.specs.Planned.{net_under, plan_of}
 use Rattle.plan_job.specs.Plan.{storage_under}
-use Rattle.soda_design.specs.Designs.{PlainDesign}
+use Rattle.module_text.specs.Designs.{PlainDesign}
 use Rattle.module_text.specs.Texts.{IsDesignText, version_1}
 
 -- the text of a design of this program: its delays are the least plan, and its certificate fits them

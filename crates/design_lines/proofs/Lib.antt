@@ -1,3 +1,5 @@
+pub mod Written
+mod Examples
 pub mod Appended
 pub mod Numbered
 pub mod Inline

@@ -3,7 +3,7 @@ use Rattle.std.proofs.Common.{◌≡◌, ℕ, suc, ◌+◌, ◌<◌, List, [], �
 use Rattle.std.proofs.lemmas.List.{length-take, take_more}
 use Rattle.soda_print.specs.Canonical.{ended}
 use Rattle.soda_print.proofs.CallerLemmas.{ended-append}
-use Rattle.plan_lines.specs.Lines.{numbered}
+use Rattle.design_lines.specs.PlanLines.{numbered}
 
 -- what is numbered in two parts
 pub numbered-append : {A B : Type 0} (f : ℕ → A → B) (k : ℕ) (xs ys : List A)

@@ -8,7 +8,7 @@ use Rattle.delay_net.specs.declared.net.Read.{Read}
 use Rattle.soda_ir.specs.Program.{PlainProgram}
 use Rattle.soda_print.specs.Canonical.{ended}
 use Rattle.time_stages.specs.declared.staging.StagedTensor.{StagedTensor}
-use Rattle.plan_lines.specs.Lines.{numbered, read_front, read_line, tensor_front, tensor_line}
+use Rattle.design_lines.specs.PlanLines.{numbered, read_front, read_line, tensor_front, tensor_line}
 use Rattle.design_lines.specs.machine.Reading.{two_numbered}
 use Rattle.design_lines.proofs.Apart.{two_apart}
 

@@ -2,7 +2,7 @@
 use Rattle.std.proofs.Common.{◌≡◌, ℕ, ◌<◌, ◌^◌, List, [], ◌∷◌, ◌++◌, Option, Some, None, MatchOption, sym, ap, ◌∙◌, codes, arith, pos}
 use Rattle.delay_net.specs.declared.net.Read.{Read}
 use Rattle.delay_net.specs.Windows.{MeetsWindow, age, at_least_0}
-use Rattle.plan_lines.specs.Lines.{read_front, read_line}
+use Rattle.design_lines.specs.PlanLines.{read_front, read_line}
 use Rattle.design_lines.specs.declared.told.Amounts.{Amounts}
 use Rattle.design_lines.specs.Lines.{GoesOn}
 use Rattle.design_lines.specs.machine.Reading.{two_numbered}

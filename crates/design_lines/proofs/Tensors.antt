@@ -1,7 +1,7 @@
 -- The line of a staged tensor, as it is read.
 use Rattle.std.proofs.Common.{◌≡◌, ℕ, ◌<◌, ◌≤◌, ◌^◌, List, [], ◌∷◌, ◌++◌, sym, ap, ◌∙◌, codes, arith}
 use Rattle.soda_ir.specs.Program.{PlainProgram}
-use Rattle.plan_lines.specs.Lines.{tensor_front, tensor_line}
+use Rattle.design_lines.specs.PlanLines.{tensor_front, tensor_line}
 use Rattle.time_stages.specs.declared.staging.StagedTensor.{StagedTensor}
 use Rattle.design_lines.specs.Lines.{GoesOn}
 use Rattle.design_lines.specs.machine.Reading.{two_numbered}

@@ -1,2 +1,3 @@
+pub mod PlanLines
 pub mod Lines
 pub mod machine

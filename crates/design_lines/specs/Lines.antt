@@ -6,7 +6,7 @@ use Rattle.net_ir.specs.Nets.{Net}
 use Rattle.net_ir.specs.declared.network.Module.{Module}
 use Rattle.net_ir.specs.declared.network.Module.TheVariants.{Source, Forward, Compute, Sink}
 use Rattle.net_ir.specs.declared.network.Queue.{Queue}
-use Rattle.plan_lines.specs.Lines.{numbered}
+use Rattle.design_lines.specs.PlanLines.{numbered}
 use Rattle.soda_ir.specs.Program.{PlainProgram}
 use Rattle.soda_ir.specs.Valid.{IsValid}
 use Rattle.soda_print.specs.Canonical.{canonical_lines, ended}

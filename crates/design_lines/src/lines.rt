@@ -1,7 +1,7 @@
 ghost use Rattle.std.specs.Prelude.{◌≡◌, ◌++◌, codes, length, IfOk, OnOk, string_bytes};
 ghost use Rattle.std.specs.Fmt.{decimal};
 ghost use Rattle.soda_print.specs.Canonical.{canonical, canonical_lines, ended};
-ghost use Rattle.plan_lines.specs.Lines.{numbered};
+ghost use Rattle.design_lines.specs.PlanLines.{numbered};
 ghost use Rattle.soda_ir.specs.Program.{plain};
 ghost use Rattle.design_lines.specs.Lines.{IsWritten, end_words, module_line, port_words, program_line, program_lines, queue_line};
 

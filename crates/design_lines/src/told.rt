@@ -2,15 +2,15 @@ ghost use Rattle.std.specs.Prelude.{◌≡◌, ◌↔◌, IsTrue, ℕ, ◌<◌, 
 ghost use Rattle.delay_net.specs.Limits.{delay_end};
 ghost use Rattle.delay_net.specs.Shape.{HasSmallOffset};
 ghost use Rattle.delay_net.specs.Windows.{HasShortDelays, MeetsWindow, age, at_least_0};
-ghost use Rattle.plan_lines.specs.Lines.{read_front, read_line, tensor_front, tensor_line};
+ghost use Rattle.design_lines.specs.PlanLines.{read_front, read_line, tensor_front, tensor_line};
 ghost use Rattle.soda_ir.specs.Program.{plain};
 ghost use Rattle.design_lines.specs.Lines.{GoesOn};
 ghost use Rattle.design_lines.specs.machine.Reading.{two_numbered};
 
 use crate::NoMemory;
 use crate::cursor::{Pair, two_behind};
+use crate::text::{add_read_front, add_tensor_front};
 use delay_net::{DELAY_END, Read, age_of, meets_window};
-use plan_lines::{add_read_front, add_tensor_front};
 use soda_ir::Parts;
 use std::alloc::Global;
 use time_stages::StagedTensor;

@@ -4,10 +4,10 @@ use Rattle.std.proofs.lemmas.Grind.{flat_map-append}
 use Rattle.std.proofs.lemmas.List.{append_cancel_left}
 use Rattle.delay_net.specs.Windows.{age, at_least_0, storage_of, total_storage}
 use Rattle.delay_net.specs.declared.net.Read.{Read}
-use Rattle.soda_design.specs.Designs.{IsDesign, PlainDesign}
+use Rattle.module_text.specs.Designs.{IsDesign, PlainDesign}
 use Rattle.soda_ir.specs.Program.{PlainProgram}
 use Rattle.soda_print.specs.Canonical.{ended}
-use Rattle.plan_lines.specs.Lines.{numbered, plan_lines, read_line, read_lines, tensor_line, tensor_lines, total_line}
+use Rattle.design_lines.specs.PlanLines.{numbered, plan_lines, read_line, read_lines, tensor_line, tensor_lines, total_line}
 use Rattle.time_stages.specs.declared.staging.StagedTensor.{StagedTensor}
 use Rattle.time_stages.specs.Staged.{staged_reads, staged_tensors, staged_widths}
 use Rattle.std.specs.List.{All}

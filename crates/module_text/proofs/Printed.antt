@@ -2,7 +2,7 @@
 use Rattle.std.proofs.Common.{◌≡◌, ℕ, List, [], ◌∷◌, ◌++◌, sym, ap, ◌∙◌, codes, append_assoc}
 use Rattle.net_build.specs.Planned.{net_under}
 use Rattle.net_ir.specs.Nets.{Net}
-use Rattle.soda_design.specs.Designs.{PlainDesign}
+use Rattle.module_text.specs.Designs.{PlainDesign}
 use Rattle.soda_print.specs.Canonical.{ended}
 use Rattle.soda_print.proofs.CallerLemmas.{ended-append}
 use Rattle.design_lines.specs.Lines.{network_lines}

@@ -3,8 +3,8 @@
 use Rattle.std.specs.Prelude.{◌≡◌, ℕ, List, [], ◌∷◌, ◌++◌, codes}
 use Rattle.net_build.specs.Planned.{net_under}
 use Rattle.net_ir.specs.Nets.{Net}
-use Rattle.plan_lines.specs.Lines.{plan_lines}
-use Rattle.soda_design.specs.Designs.{IsDesign, PlainDesign}
+use Rattle.design_lines.specs.PlanLines.{plan_lines}
+use Rattle.module_text.specs.Designs.{IsDesign, PlainDesign}
 use Rattle.soda_print.specs.Canonical.{ended}
 use Rattle.design_lines.specs.Lines.{IsWritten, network_lines, program_lines}
 

@@ -1,5 +1,5 @@
 ghost use Rattle.std.specs.Prelude.{◌≡◌, ℕ, List};
-ghost use Rattle.soda_design.specs.Designs.{PlainDesign};
+ghost use Rattle.module_text.specs.Designs.{PlainDesign};
 ghost use Rattle.module_text.specs.Texts.{IsDesignText, Version};
 
 /// No two designs have one text.

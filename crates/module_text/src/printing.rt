@@ -1,17 +1,15 @@
 ghost use Rattle.std.specs.Prelude.{◌≡◌, ◌++◌, [], IfOk, OnOk};
-ghost use Rattle.soda_design.specs.Designs.{plain_design};
+ghost use Rattle.module_text.specs.Designs.{plain_design};
 ghost use Rattle.soda_ir.specs.Program.{plain};
 ghost use Rattle.soda_print.specs.Canonical.{ended};
 ghost use Rattle.time_stages.specs.Staged.{staged_reads, staged_widths};
 ghost use Rattle.design_lines.specs.Lines.{IsWritten, network_lines};
 ghost use Rattle.module_text.specs.Texts.{IsDesignText, design_text, lines_to_total, version_1};
 
-use crate::NoMemory;
+use crate::{Design, NoMemory};
 use delay_net::Net;
-use design_lines::{add_line, add_modules, add_program, add_queues};
+use design_lines::{add_line, add_modules, add_plan_lines, add_program, add_queues};
 use net_ir::Network;
-use plan_lines::add_plan_lines;
-use soda_design::Design;
 use std::alloc::Global;
 use time_stages::net_of;
 

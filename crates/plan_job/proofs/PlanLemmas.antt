@@ -6,7 +6,7 @@ use Rattle.flow_solve.specs.LeastPlan.{IsLeastPlan}
 use Rattle.soda_ir.specs.Program.{PlainProgram}
 use Rattle.soda_print.specs.Canonical.{ended}
 use Rattle.time_stages.specs.Staged.{staged_reads, staged_widths}
-use Rattle.plan_lines.specs.Lines.{plan_lines}
+use Rattle.design_lines.specs.PlanLines.{plan_lines}
 use Rattle.plan_job.specs.Plan.{IsPlanText}
 
 pub plan_text_is : (p : PlainProgram) (weights : List ℕ) (reads : List Read) (delays hold need first text : List ℕ) → weights ≡ staged_widths p

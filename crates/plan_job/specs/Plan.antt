@@ -6,7 +6,7 @@ use Rattle.flow_solve.specs.LeastPlan.{IsLeastPlan}
 use Rattle.soda_ir.specs.Program.{PlainProgram}
 use Rattle.soda_print.specs.Canonical.{ended}
 use Rattle.time_stages.specs.Staged.{staged_reads, staged_widths}
-use Rattle.plan_lines.specs.Lines.{plan_lines}
+use Rattle.design_lines.specs.PlanLines.{plan_lines}
 
 -- the total storage in bits of the staged program under these delays
 abbrev pub storage_under : PlainProgram → List ℕ → ℕ

@@ -2,7 +2,7 @@
 use Rattle.std.proofs.Common.{◌≡◌, ◌≢◌, ℕ, suc, ◌+◌, ◌<◌, List, [], ◌∷◌, ◌++◌, length, take, drop, get_or, refl, sym, ap, subst, ◌∙◌, codes, arith, append_assoc, length-append, Result, Err}
 use Rattle.std.proofs.Math.Seq.{drop-cons}
 use Rattle.std.proofs.lemmas.List.{length-take, take-append-drop}
-use Rattle.plan_lines.specs.Lines.{numbered}
+use Rattle.design_lines.specs.PlanLines.{numbered}
 use Rattle.soda_print.specs.Canonical.{ended}
 use Rattle.soda_print.proofs.CallerLemmas.{ended-append}
 use Rattle.net_ir.specs.Nets.{Net}

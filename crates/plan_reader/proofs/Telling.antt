@@ -8,7 +8,7 @@ use Rattle.std.proofs.lemmas.Option.{get_or_from_slice_get, slice_get_within}
 use Rattle.delay_net.specs.Limits.{delay_end}
 use Rattle.delay_net.specs.Windows.{MeetsWindow, age, at_least_0}
 use Rattle.delay_net.specs.declared.net.Read.{Read}
-use Rattle.plan_lines.specs.Lines.{numbered, read_line, tensor_line}
+use Rattle.design_lines.specs.PlanLines.{numbered, read_line, tensor_line}
 use Rattle.soda_ir.specs.Program.{PlainProgram}
 use Rattle.soda_print.specs.Canonical.{ended}
 use Rattle.soda_print.proofs.CallerLemmas.{ended-append}

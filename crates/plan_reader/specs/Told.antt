@@ -3,7 +3,7 @@ use Rattle.std.specs.Prelude.{◌≡◌, ℕ, ◌^◌, ◌<◌, ◌≤◌, List,
 use Rattle.std.specs.List.{All}
 use Rattle.delay_net.specs.Windows.{HasShortDelays, MeetsWindows, age, at_least_0, storage_of}
 use Rattle.delay_net.specs.declared.net.Read.{Read}
-use Rattle.plan_lines.specs.Lines.{numbered, read_line, tensor_line}
+use Rattle.design_lines.specs.PlanLines.{numbered, read_line, tensor_line}
 use Rattle.soda_ir.specs.Program.{PlainProgram}
 use Rattle.time_stages.specs.Staged.{staged_tensors}
 

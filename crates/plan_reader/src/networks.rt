@@ -1,5 +1,5 @@
 ghost use Rattle.std.specs.Prelude.{◌≡◌, ◌<◌, ◌^◌, ◌++◌, codes, IfOk, length};
-ghost use Rattle.plan_lines.specs.Lines.{numbered};
+ghost use Rattle.design_lines.specs.PlanLines.{numbered};
 ghost use Rattle.soda_print.specs.Canonical.{ended};
 ghost use Rattle.design_lines.specs.Lines.{module_line, network_lines, queue_line};
 ghost use Rattle.plan_reader.specs.machine.Stops.{IfRefused, IsStop};

@@ -1,14 +1,13 @@
 ghost use Rattle.std.specs.Prelude.{◌≡◌, ◌↔◌, IsTrue, ℕ, ◌<◌, ◌++◌, ◌∷◌, [], codes, length, slice_index, IfOk, MatchOption};
 ghost use Rattle.delay_net.specs.Certificate.{Fits};
 ghost use Rattle.delay_net.specs.Windows.{HasShortDelays, IsAssignment, MeetsWindows, storage_of, total_storage};
-ghost use Rattle.plan_lines.specs.Lines.{total_line};
+ghost use Rattle.design_lines.specs.PlanLines.{total_line};
 ghost use Rattle.design_lines.specs.Lines.{GoesOn};
 ghost use Rattle.plan_reader.specs.Told.{AreStorages};
 
 use crate::NoMemory;
 use delay_net::{Flow, Net, check, storage, storages};
-use design_lines::behind_line;
-use plan_lines::total_line;
+use design_lines::{behind_line, total_line};
 use std::alloc::Global;
 
 // Whether these are the storages of the tensors, in cells.

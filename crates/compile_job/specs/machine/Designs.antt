@@ -1,7 +1,7 @@
 -- A design of a program under its least plan.
 use Rattle.std.specs.Prelude.{◌≡◌}
 use Rattle.flow_solve.specs.LeastPlan.{IsLeastPlan}
-use Rattle.soda_design.specs.Designs.{IsDesign, PlainDesign}
+use Rattle.module_text.specs.Designs.{IsDesign, PlainDesign}
 use Rattle.soda_ir.specs.Program.{PlainProgram}
 use Rattle.time_stages.specs.Staged.{staged_reads, staged_widths}
 

@@ -3,7 +3,7 @@ use Rattle.std.specs.Prelude.{◌≡◌, ℕ, suc, ◌+◌, ◌<◌, ◌^◌, Li
 use Rattle.delay_net.specs.Limits.{delay_end}
 use Rattle.delay_net.specs.Windows.{MeetsWindow, age, at_least_0}
 use Rattle.delay_net.specs.declared.net.Read.{Read}
-use Rattle.plan_lines.specs.Lines.{read_line, tensor_line}
+use Rattle.design_lines.specs.PlanLines.{read_line, tensor_line}
 use Rattle.soda_ir.specs.Program.{PlainProgram}
 use Rattle.soda_print.specs.Canonical.{ended}
 use Rattle.time_stages.specs.Staged.{staged_tensors}

@@ -1,6 +1,6 @@
 use Rattle.std.proofs.Common.{◌≡◌, ◌++◌, take}
 use Rattle.soda_print.specs.Canonical.{ended}
-use Rattle.plan_lines.specs.Lines.{numbered}
+use Rattle.design_lines.specs.PlanLines.{numbered}
 use Rattle.design_lines.specs.Lines.{module_line}
 use Rattle.design_lines.proofs.lines.add_modules.Given as goal
 

@@ -2,7 +2,7 @@ use Rattle.std.proofs.Common.{ℕ, List, ap, ◌∙◌, codes}
 use Rattle.std.proofs.lemmas.Result.{on_ok_weaker}
 use Rattle.soda_ir.specs.declared.program.Parts.{Parts}
 use Rattle.soda_ir.specs.Program.{plain}
-use Rattle.plan_lines.specs.Lines.{plan_lines}
+use Rattle.design_lines.specs.PlanLines.{plan_lines}
 use Rattle.design_lines.specs.Lines.{program_lines}
 use Rattle.module_text.proofs.Printed.{to_total}
 use Rattle.module_text.proofs.printing.add_to_total.Goals as goal

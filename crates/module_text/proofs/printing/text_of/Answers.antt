@@ -1,4 +1,4 @@
-use Rattle.soda_design.specs.Designs.{plain_design}
+use Rattle.module_text.specs.Designs.{plain_design}
 use Rattle.module_text.proofs.Printed.{whole}
 use Rattle.module_text.proofs.printing.text_of.Goals as goal
 

@@ -1,7 +1,7 @@
 use Rattle.std.proofs.Common.{List, ℕ, ◌++◌, ap, ◌∙◌}
 use Rattle.soda_ir.specs.Program.{plain}
 use Rattle.soda_print.specs.Canonical.{ended}
-use Rattle.plan_lines.specs.Lines.{plan_lines}
+use Rattle.design_lines.specs.PlanLines.{plan_lines}
 use Rattle.plan_job.proofs.PlanLemmas.{plan_text_is}
 use Rattle.plan_job.proofs.plan.text_of.Goals as goal
 

@@ -1,6 +1,6 @@
 use Rattle.std.proofs.Common.{ℕ, ◌+◌, length}
 use Rattle.std.proofs.lemmas.Result.{err_from_is_err_and}
-use Rattle.plan_lines.specs.Lines.{numbered}
+use Rattle.design_lines.specs.PlanLines.{numbered}
 use Rattle.design_lines.specs.Lines.{module_line, network_lines, queue_line}
 use Rattle.plan_reader.specs.machine.Stops.{IsStop}
 use Rattle.plan_reader.proofs.Stopping.{network_stop_in_modules, network_stop_in_queues, network_stop_at_end, refused_on}

@@ -1,5 +1,5 @@
 use Rattle.std.proofs.Common.{◌≡◌, ◌++◌, take}
-use Rattle.plan_lines.specs.Lines.{numbered}
+use Rattle.design_lines.specs.PlanLines.{numbered}
 use Rattle.soda_print.specs.Canonical.{ended}
 use Rattle.design_lines.specs.Lines.{queue_line}
 use Rattle.plan_reader.proofs.networks.queues_behind.Given as goal

@@ -4,9 +4,9 @@ use Rattle.delay_net.specs.declared.net.Read.{Read}
 use Rattle.delay_net.specs.Windows.{total_storage}
 use Rattle.soda_ir.specs.Program.{plain}
 use Rattle.time_stages.specs.Staged.{staged_reads, staged_widths}
-use Rattle.plan_lines.specs.Lines.{read_lines, tensor_lines, total_line}
-use Rattle.plan_lines.proofs.Written.{three_parts}
-use Rattle.plan_lines.proofs.lines.add_plan_lines.Goals as goal
+use Rattle.design_lines.specs.PlanLines.{read_lines, tensor_lines, total_line}
+use Rattle.design_lines.proofs.Written.{three_parts}
+use Rattle.design_lines.proofs.plan.add_plan_lines.Goals as goal
 
 pub returns : goal.returns
 returns c =

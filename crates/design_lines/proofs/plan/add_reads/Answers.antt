@@ -1,9 +1,9 @@
 use Rattle.std.proofs.Common.{◌≡◌, ℕ, ◌++◌, get_or, slice_index, pos, sym, ap, ◌∙◌}
 use Rattle.delay_net.specs.declared.net.Read.{Read}
 use Rattle.delay_net.specs.Windows.{age, at_least_0}
-use Rattle.plan_lines.specs.Lines.{read_line}
-use Rattle.plan_lines.proofs.Written.{written_more}
-use Rattle.plan_lines.proofs.lines.add_reads.Goals as goal
+use Rattle.design_lines.specs.PlanLines.{read_line}
+use Rattle.design_lines.proofs.Written.{written_more}
+use Rattle.design_lines.proofs.plan.add_reads.Goals as goal
 
 pub loop-number-preserved : goal.loop-number-preserved
 loop-number-preserved c =

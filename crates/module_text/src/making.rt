@@ -6,7 +6,7 @@ ghost use Rattle.soda_ir.specs.Program.{plain};
 ghost use Rattle.time_stages.specs.Staged.{staged_reads, staged_widths};
 ghost use Rattle.net_build.specs.Limits.{limit_passed};
 ghost use Rattle.net_build.specs.Planned.{plan_of};
-ghost use Rattle.soda_design.specs.Designs.{IsDesign, plain_design};
+ghost use Rattle.module_text.specs.Designs.{IsDesign, plain_design};
 
 use crate::Design;
 use crate::held::with_staging;

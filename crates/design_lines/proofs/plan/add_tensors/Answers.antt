@@ -6,9 +6,9 @@ use Rattle.soda_ir.specs.Program.{PlainProgram, plain}
 use Rattle.time_stages.specs.declared.staging.Staged.{Staged}
 use Rattle.time_stages.specs.declared.staging.StagedTensor.{StagedTensor}
 use Rattle.time_stages.specs.Staged.{staged, staged_tensors, staged_widths, type_of}
-use Rattle.plan_lines.specs.Lines.{tensor_line}
-use Rattle.plan_lines.proofs.Written.{written_more}
-use Rattle.plan_lines.proofs.lines.add_tensors.Goals as goal
+use Rattle.design_lines.specs.PlanLines.{tensor_line}
+use Rattle.design_lines.proofs.Written.{written_more}
+use Rattle.design_lines.proofs.plan.add_tensors.Goals as goal
 
 -- there are as many staged tensors as widths
 as_many : (p : PlainProgram) (held : Staged) (ts : List StagedTensor) (weights : List ℕ) → ts ≡ held.tensors → held ≡ staged p → weights ≡ staged_widths p

@@ -2,7 +2,7 @@ use Rattle.std.proofs.Common.{List, ℕ, ap, ◌∙◌, sym}
 use Rattle.soda_ir.specs.Program.{plain}
 use Rattle.net_build.specs.Limits.{limit_passed}
 use Rattle.net_build.specs.Planned.{net_under, plan_of}
-use Rattle.soda_design.proofs.held.with_staging.Goals as goal
+use Rattle.module_text.proofs.held.with_staging.Goals as goal
 
 pub invariant_of-result : goal.invariant_of-result
 invariant_of-result c =

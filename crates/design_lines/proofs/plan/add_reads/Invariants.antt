@@ -1,8 +1,8 @@
 use Rattle.std.proofs.Common.{◌≡◌, ◌++◌, slice_index, take}
 use Rattle.delay_net.specs.Windows.{age, at_least_0}
 use Rattle.soda_print.specs.Canonical.{ended}
-use Rattle.plan_lines.specs.Lines.{numbered, read_line}
-use Rattle.plan_lines.proofs.lines.add_reads.Given as goal
+use Rattle.design_lines.specs.PlanLines.{numbered, read_line}
+use Rattle.design_lines.proofs.plan.add_reads.Given as goal
 
 -- the lines of the reads so far
 abbrev pub invariant-loop-number : goal.invariant-loop-number

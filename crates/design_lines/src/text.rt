@@ -3,7 +3,7 @@ ghost use Rattle.std.specs.Fmt.{decimal};
 ghost use Rattle.soda_ir.specs.Program.{plain};
 ghost use Rattle.soda_print.specs.Canonical.{tensor_name, type_text};
 ghost use Rattle.time_stages.specs.Staged.{type_of};
-ghost use Rattle.plan_lines.specs.Lines.{behind_name, read_front, read_line, read_words, tensor_front, tensor_line, total_line};
+ghost use Rattle.design_lines.specs.PlanLines.{behind_name, read_front, read_line, read_words, tensor_front, tensor_line, total_line};
 
 use crate::NoMemory;
 use delay_net::Read;

@@ -3,7 +3,7 @@ ghost use Rattle.delay_net.specs.Windows.{HasShortDelays, IsAssignment, MeetsWin
 ghost use Rattle.soda_ir.specs.Program.{plain};
 ghost use Rattle.soda_print.specs.Canonical.{ended};
 ghost use Rattle.time_stages.specs.Staged.{staged, staged_reads, staged_widths};
-ghost use Rattle.plan_lines.specs.Lines.{plan_lines, read_lines, tensor_lines};
+ghost use Rattle.design_lines.specs.PlanLines.{plan_lines, read_lines, tensor_lines};
 
 use crate::NoMemory;
 use crate::text::{add_read, add_tensor, add_total};

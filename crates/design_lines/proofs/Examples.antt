@@ -14,7 +14,7 @@ use Rattle.soda_print.specs.Canonical.{ended, tensor_name, type_text}
 use Rattle.time_stages.specs.Margins.{input_margins, margins_over}
 use Rattle.time_stages.specs.Placing.{placed_in}
 use Rattle.time_stages.specs.Staged.{reads_of, reads_of_first, staged_reads, staged_statements, staged_tensors, staged_widths}
-use Rattle.plan_lines.specs.Lines.{plan_lines}
+use Rattle.design_lines.specs.PlanLines.{plan_lines}
 
 abbrev uint : ℕ → IntType
 uint bits = record { signed = false; bits = bits }

@@ -3,7 +3,7 @@ use Rattle.std.proofs.Common.{◌≡◌, ℕ, suc, ◌+◌, ◌<◌, ◌≤◌, 
 use Rattle.std.proofs.lemmas.Grind.{flat_map-append}
 use Rattle.std.proofs.lemmas.List.{length-take, take_more}
 use Rattle.soda_print.specs.Canonical.{ended}
-use Rattle.plan_lines.specs.Lines.{numbered}
+use Rattle.design_lines.specs.PlanLines.{numbered}
 
 abbrev on_line : List ℕ → List ℕ
 on_line w = w ++ codes "\n"

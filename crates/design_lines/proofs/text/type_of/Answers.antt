@@ -2,7 +2,7 @@ use Rattle.std.proofs.Common.{◌≡◌, ℕ, zero, suc, List, [], ◌∷◌, ma
 use Rattle.soda_words.specs.IntType.{IntType, int32}
 use Rattle.soda_ir.specs.declared.program.Tensor.{Tensor}
 use Rattle.soda_ir.specs.Program.{PlainTensor, plain_tensor}
-use Rattle.plan_lines.proofs.text.type_of.Goals as goal
+use Rattle.design_lines.proofs.text.type_of.Goals as goal
 
 type_there : Option Tensor → IntType
 type_there None = int32

@@ -6,7 +6,7 @@ ghost use Rattle.soda_ir.specs.Program.{plain};
 ghost use Rattle.time_stages.specs.Staged.{staged, staged_reads, staged_widths};
 ghost use Rattle.net_build.specs.Limits.{limit_passed};
 ghost use Rattle.net_build.specs.Planned.{net_under, plan_of};
-ghost use Rattle.soda_design.specs.Designs.{AreSmall, IsDesign, plain_design};
+ghost use Rattle.module_text.specs.Designs.{AreSmall, IsDesign, plain_design};
 
 use delay_net::Flow;
 use net_build::{BuildRefusal, build};
@@ -30,13 +30,13 @@ pub struct Design {
 impl Model for Design {
     ghost use Rattle.soda_ir.specs.contracts.expr.Expr as e;
     ghost use Rattle.std.specs.Coded.{codes};
-    ghost use Rattle.soda_design.specs.Designs.{Held};
+    ghost use Rattle.module_text.specs.Designs.{Held};
 
     ghost Value = { Held };
 
     ghost coded = { Prim.hlevel (codes, e.the_row.coded) };
 
-    ghost use Rattle.soda_design.specs.machine.Kept.{IsKept};
+    ghost use Rattle.module_text.specs.machine.Kept.{IsKept};
 
     ghost view = { λ d.
         record { program = d.program; delays = d.delays.items; hold = d.flow.hold; need = d.flow.need } };

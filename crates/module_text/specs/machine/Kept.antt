@@ -5,7 +5,7 @@ use Rattle.net_build.specs.Planned.{net_under}
 use Rattle.soda_ir.specs.Program.{plain}
 use Rattle.time_stages.specs.declared.staging.Staged.{Staged}
 use Rattle.time_stages.specs.Staged.{staged}
-use Rattle.soda_design.specs.Designs.{Held, IsDesign, plain_design}
+use Rattle.module_text.specs.Designs.{Held, IsDesign, plain_design}
 
 -- it is a design, and the staging and the network are those of it
 pub record IsKept (h : Held) (staging : Staged) (network : Net) : Type 0 where

@@ -2,8 +2,8 @@ use Rattle.std.proofs.Common.{◌≡◌, ◌++◌, slice_index, take}
 use Rattle.delay_net.specs.Windows.{storage_of}
 use Rattle.soda_ir.specs.Program.{plain}
 use Rattle.soda_print.specs.Canonical.{ended}
-use Rattle.plan_lines.specs.Lines.{numbered, tensor_line}
-use Rattle.plan_lines.proofs.lines.add_tensors.Given as goal
+use Rattle.design_lines.specs.PlanLines.{numbered, tensor_line}
+use Rattle.design_lines.proofs.plan.add_tensors.Given as goal
 
 -- the lines of the tensors so far
 abbrev pub invariant-loop-number : goal.invariant-loop-number
