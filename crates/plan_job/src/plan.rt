@@ -5,8 +5,8 @@ ghost use Rattle.plan_job.specs.Plan.{IsPlanText};
 
 use crate::NoMemory;
 use delay_net::Net;
-use flow_solve::solve;
 use design_lines::add_plan_lines;
+use flow_solve::solve;
 use soda_ir::Program;
 use std::alloc::Global;
 use time_stages::{Staged, net_of, stage};
