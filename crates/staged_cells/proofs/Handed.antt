@@ -1,11 +1,11 @@
 -- What a sink takes and hands on.
-use Rattle.std.proofs.Common.{◌≡◌, ℕ, ◌+◌, ◌-◌, ◌*◌, ◌/◌, ◌%◌, ◌<◌, ◌≤◌, ◌==◌, min, List, [], length, map, get_or, Option, None, Some, slice_get, slice_index, slice_index_or, refl, sym, ◌∙◌, ap, subst, arith, ⊎_elim, ℤ, pos, ◌-ℤ◌}
+use Rattle.std.proofs.Common.{◌≡◌, ℕ, ◌+◌, ◌-◌, ◌*◌, ◌/◌, ◌%◌, ◌<◌, ◌≤◌, ◌==◌, min, nat_le, if◌then◌else◌, List, [], length, map, get_or, Option, None, Some, slice_get, slice_index, slice_index_or, refl, sym, ◌∙◌, ap, subst, arith, ⊎_elim, ℤ, pos, ◌-ℤ◌}
 use Rattle.std.specs.List.{fold}
 use Rattle.std.proofs.Math.Nat.{mul-le-mul}
-use Rattle.std.proofs.lemmas.Bool.{and_parts, cases_lt, eqb-true}
+use Rattle.std.proofs.lemmas.Bool.{and_parts, cases_lt, eqb-true, le-leb}
 use Rattle.std.proofs.lemmas.Int.{ints}
 use Rattle.std.proofs.lemmas.Nat.{div-add-mod', mod_below}
-use Rattle.std.proofs.lemmas.List.{get_or-map, length-map}
+use Rattle.std.proofs.lemmas.List.{ext_get_or, get_or-map, length-map}
 use Rattle.std.proofs.lemmas.List.FromFn.{get_or-range_with_len, length-range_with_len}
 use Rattle.net_ir.specs.Firings.{firings_at}
 use Rattle.net_ir.specs.Nets.{Net, StandByPort, age, age_at, entrances, queue_at}
@@ -27,7 +27,7 @@ use Rattle.soda_ir.proofs.CallerLemmas.{get-listed, length-listed}
 use Rattle.soda_eval.specs.Runs.{HasArrays, cells_at, defined_arrays}
 use Rattle.time_stages.specs.declared.staging.StagedTensor.{StagedTensor}
 use Rattle.time_stages.specs.Staged.{staged_tensors}
-use Rattle.staged_cells.specs.Sends.{AreSent, IsPrefix, handed_list, item_taken, items_given, output_of}
+use Rattle.staged_cells.specs.Sends.{AreSent, IsPrefix, handed_list, item_taken, items_given, output_of, port_items}
 use Rattle.staged_cells.specs.Streams.{HasStreams, cell_number, lane_between, module_at, receiver, sender, stage_cell, stream, tensor_of}
 use Rattle.staged_cells.proofs.Designs.{kind_is, kinds_are, output_kind, some_stage, staged_at}
 use Rattle.staged_cells.proofs.Entrances.{entrance_is, sink_ports}
@@ -51,6 +51,13 @@ into_sink p (Source w) r v q j = absurd j
 into_sink p (Forward w row a) r v q j = absurd j
 into_sink p (Compute w row) r v q j = (j.0, j.1)
 into_sink p (Sink w) r v q j = absurd j
+
+-- and the queue has no lead
+sink_lead : (p : Plan) (s : Module) (v : ℕ) (q : Queue) → Joins p s (Sink v) q → q.lead ≡ 0
+sink_lead p (Source w) v q j = absurd j
+sink_lead p (Forward w row a) v q j = absurd j
+sink_lead p (Compute w row) v q j = j.2
+sink_lead p (Sink w) v q j = absurd j
 
 -- as many firings as a module of age 0 has are enough for each cell of each tensor
 firings_enough : (cells : ℕ) (p : Plan) (v : ℕ) → 0 < p.unroll → cells + slice_index p.delays v ≤ p.unroll * firings_for cells p
@@ -124,6 +131,37 @@ module _ (p : PlainProgram) (delays : List ℕ) (plan : IsPlan (plan_of p delays
         item_is p delays rows params inputs n s (Sink v) k refl to
         ∙ ap (λ y. stage_cell p rows params inputs y (cell_number the_plan y (lane_between s (Sink v)) k)) is.0
         ∙ ap (λ y. stage_cell p rows params inputs v (cell_number the_plan v y k)) (is.1 ∙ lane_port lane lt)
+
+    lane_lead : (lane : ℕ) → lane < p.unroll → (queue_at net.queues (get_or es lane 0)).lead ≡ 0
+    lane_lead lane lt =
+        let n = get_or es lane 0 in
+        let q = queue_at net.queues n in
+        let ends = entrance_is the_plan plan stand m lane 0 (omega (arith, as_many_lanes)) in
+        let joined = joined_at the_plan plan n ends.0 in
+        let to : receiver net n ≡ Sink v = ap (module_at net) ends.1 ∙ module_of the_plan plan (Sink v) h in
+        sink_lead the_plan (sender net n) v q (subst (λ (b : Module). Joins the_plan (sender net n) b q) to joined.joins)
+
+    -- so its ports hold the cells of its output, lane by lane
+    pub lanes_held : (k : ℕ) → port_items net (stream p rows params inputs delays) m k
+        ≡ listed (λ lane. stage_cell p rows params inputs v (cell_number the_plan v lane k)) p.unroll
+    lanes_held k =
+        let items : ℕ → ℕ → ℤ = stream p rows params inputs delays in
+        let f : ℕ → ℤ = λ n. if nat_le (queue_at net.queues n).lead k then items n (k - (queue_at net.queues n).lead) else pos 0 in
+        let g : ℕ → ℤ = λ lane. stage_cell p rows params inputs v (cell_number the_plan v lane k) in
+        ext_get_or (pos 0) (map f es) (listed g p.unroll) (length-map es f ∙ as_many_lanes ∙ sym (length-listed g p.unroll))
+        (λ lane lt.
+        let within : lane < length es = omega (arith, length-map es f, lt) in
+        let below : lane < p.unroll = omega (arith, as_many_lanes) in
+        let e = get_or es lane 0 in
+        let lead = (queue_at net.queues e).lead in
+        let none : lead ≡ 0 = lane_lead lane below in
+        let le : lead ≤ k = omega (arith, none) in
+        let now : k - lead ≡ k = omega (arith, none) in
+        get_or-map f es lane 0 (pos 0) within
+        ∙ ap (λ b. if b then items e (k - lead) else pos 0) (le-leb lead k le)
+        ∙ ap (items e) now
+        ∙ lane_carries lane k below
+        ∙ sym (get-listed g p.unroll lane (pos 0) below))
 
     module _ (design : HasStreams p delays) (arrays : HasArrays (cells_at p rows) (input_types p.tensors) inputs) (firings : ℕ) (taken sent : ℕ → List ℤ)
         (run : AreSent p rows params inputs delays firings taken sent) where

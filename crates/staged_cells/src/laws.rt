@@ -126,7 +126,7 @@ pub fn items_are_by_module()
 {}
 
 /// The queues to a sink are those of the lanes of its output, in order, and carry its cells, which are the defined
-/// array's.
+/// array's; so its ports hold these lane by lane.
 pub fn sinks_take_arrays()
     ensures count { (p : PlainProgram) (delays : List ℕ) (m v : ℕ) → HasStreams p delays
         → m < length (net_under p delays).modules → module_at (net_under p delays) m ≡ Sink v
@@ -136,6 +136,11 @@ pub fn sinks_take_arrays()
         → module_at (net_under p delays) m ≡ Sink v → lane < p.unroll
         → stream p rows params inputs delays (slice_index (entrances (net_under p delays) m) lane) k
         ≡ stage_cell p rows params inputs v (cell_number (plan_of p delays) v lane k) }
+    ensures ports { (p : PlainProgram) (delays : List ℕ) (rows : ℕ) (params : List ℤ) (inputs : List (List ℤ))
+        (m v k : ℕ) → HasStreams p delays → m < length (net_under p delays).modules
+        → module_at (net_under p delays) m ≡ Sink v
+        → port_items (net_under p delays) (stream p rows params inputs delays) m k
+        ≡ listed (λ lane. stage_cell p rows params inputs v (cell_number (plan_of p delays) v lane k)) p.unroll }
     ensures array { (p : PlainProgram) (delays : List ℕ) (rows : ℕ) (params : List ℤ) (inputs : List (List ℤ))
         (m v : ℕ) → HasStreams p delays → m < length (net_under p delays).modules
         → module_at (net_under p delays) m ≡ Sink v

@@ -1,0 +1,5 @@
+pub mod Sent
+pub mod Moving
+pub mod Leaving
+pub mod Keeping
+pub mod After

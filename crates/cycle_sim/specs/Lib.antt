@@ -1,0 +1,4 @@
+pub mod Settings
+pub mod Sends
+pub mod Stations
+pub mod machine

@@ -1,0 +1,2 @@
+-- What describes a firing of one module, and no public definition but by its name.
+pub mod Firings

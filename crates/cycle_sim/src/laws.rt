@@ -1,0 +1,35 @@
+ghost use Rattle.std.specs.Prelude.{◌≡◌, ℕ, ◌<◌, List, ℤ, length};
+ghost use Rattle.net_ir.specs.Nets.{exits};
+ghost use Rattle.net_ir.specs.declared.network.Module.TheVariants.{Sink};
+ghost use Rattle.net_cycles.specs.Streams.{port_values, sent_values};
+ghost use Rattle.soda_ir.specs.Points.{listed};
+ghost use Rattle.staged_cells.specs.Streams.{cell_number, module_at, stage_cell};
+ghost use Rattle.cycle_sim.specs.Settings.{AreInputs, IsSettings, Settings, net_in, plan_in, streams_over};
+ghost use Rattle.cycle_sim.specs.Sends.{SendsBy, exit_lanes};
+
+use net_ir::queues_stand_in_order;
+use staged_cells::{modules_send_streams, sinks_take_arrays};
+
+/// A module that sends what `SendsBy` says, where its ports hold the streams of its queues, sends the items of the
+/// streams of the queues from it.
+pub fn modules_of_a_run_send()
+    ensures { (c : Settings) (inputs : List (List ℤ)) (m k : ℕ) (ports sends : List ℤ) → IsSettings c
+        → AreInputs c inputs → ports ≡ port_values (net_in c) (streams_over c inputs) m k
+        → length sends ≡ length (exits (net_in c) m)
+        → SendsBy c inputs (module_at (net_in c) m) k (exit_lanes (net_in c) m) ports sends
+        → sends ≡ sent_values (net_in c) (streams_over c inputs) m k }
+{
+    modules_send_streams();
+    queues_stand_in_order()
+}
+
+/// Where the ports of a sink hold the streams of its queues, they hold the cells of its output, lane by lane.
+pub fn sinks_of_a_run_take()
+    ensures { (c : Settings) (inputs : List (List ℤ)) (m v k : ℕ) (ports : List ℤ) → IsSettings c
+        → m < length (net_in c).modules → module_at (net_in c) m ≡ Sink v
+        → ports ≡ port_values (net_in c) (streams_over c inputs) m k
+        → ports ≡ listed (λ lane. stage_cell c.program c.rows c.params inputs v (cell_number (plan_in c) v lane k))
+        c.program.unroll }
+{
+    sinks_take_arrays()
+}

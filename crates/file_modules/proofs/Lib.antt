@@ -1,0 +1,4 @@
+pub mod Lanes
+pub mod Fired
+pub mod Handed
+pub mod CallerLemmas
