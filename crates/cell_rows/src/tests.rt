@@ -1,3 +1,4 @@
+mod modules;
 mod reading;
 mod rows;
 mod writing;

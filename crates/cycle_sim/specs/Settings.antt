@@ -11,7 +11,8 @@ use Rattle.soda_ir.specs.Program.{PlainProgram, input_types}
 use Rattle.soda_eval.specs.Runs.{HasArrays, HasValues, cells_at, place_types}
 use Rattle.staged_cells.specs.Streams.{HasStreams, stage_cell, stream}
 
--- a program, the delays of its staged tensors, how many rows an array has, the params' values, and the form of the files
+-- a program, the delays of its staged tensors, how many rows an array has, the params' values, and
+-- the form of the files
 pub record Settings : Type 0 where
   pub program : PlainProgram
   pub delays : List ℕ

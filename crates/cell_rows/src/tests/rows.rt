@@ -571,8 +571,8 @@ fn many_cells(alloc: Global) -> Result<Vec<i128>, AllocError> {
     Ok(cells)
 }
 
-// The bytes that cells are written as.
-fn bytes_written(
+/// The bytes that cells are written as.
+pub(crate) fn bytes_written(
     rt: &impl Abort,
     alloc: Global,
     cells: &[i128],

@@ -69,9 +69,10 @@ Fired tells units given old new k ports sends Forward t = SendsAll sends (slice_
 Fired tells units given old new k ports sends (Compute u) t = OfCompute t (λ w. (units.value w ≡ units.value u)
     × (units.place w ≡ units.place u +ℤ pos (units.step u)) × (units.step w ≡ units.step u)
     × (units.count w ≡ units.count u)) × SendsAll sends (units.value u ports (units.place u))
-Fired tells units given old new k ports sends (Sink s) t = OfSink t (λ r. tells → (before : List ℤ) (bytes : List ℕ) → old.bytes (old.name (write_id s)) ≡ Some bytes
-    → HasPut s.writes.writer before bytes → (more : List ℕ) × (new.bytes (new.name (write_id s)) ≡ Some more)
-    × HasPut r.writes.writer (before ++ map (wrapped (output s.writes.writer).ty) (handed_by (sink s.writes) k ports)) more)
+Fired tells units given old new k ports sends (Sink s) t = OfSink t (λ r. tells → (before : List ℤ) (bytes : List ℕ)
+    → old.bytes (old.name (write_id s)) ≡ Some bytes → HasPut s.writes.writer before bytes → (more : List ℕ)
+    × (new.bytes (new.name (write_id s)) ≡ Some more) × HasPut r.writes.writer
+    (before ++ map (wrapped (output s.writes.writer).ty) (handed_by (sink s.writes) k ports)) more)
     × SendsAll sends (pos 0)
 
 -- The bytes, the name and the place of an id stay.
