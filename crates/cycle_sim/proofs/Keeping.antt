@@ -71,7 +71,7 @@ module _ {U : Type 0} (tells : Type 0) (given : ℕ) (old new : Store) (before a
   same_writer (station.Compute u) b on = ap written_by on.1
   same_writer (station.Sink s) b on = ap written_by on.1 ∙ ap (λ (x : Sink). Some x.output.id) on.2
 
-  ids_stay : (n : ℕ) → id_of (station_at after n) ≡ id_of (station_at before n)
+  pub ids_stay : (n : ℕ) → id_of (station_at after n) ≡ id_of (station_at before n)
   ids_stay n =
       ⊎_elim
       (λ found. ap (λ i. id_of (station_at after i)) found.1 ∙ ap id_of (there tells given old new before after m moves)
@@ -79,7 +79,7 @@ module _ {U : Type 0} (tells : Type 0) (given : ℕ) (old new : Store) (before a
       (λ found. ap id_of (other tells given old new before after m moves n found.1))
       (eqb_tells n m)
 
-  writers_stay : (n : ℕ) → written_by (station_at after n) ≡ written_by (station_at before n)
+  pub writers_stay : (n : ℕ) → written_by (station_at after n) ≡ written_by (station_at before n)
   writers_stay n =
       ⊎_elim
       (λ found. ap (λ i. written_by (station_at after i)) found.1 ∙ ap written_by (there tells given old new before after m moves)
@@ -94,7 +94,7 @@ module _ {U : Type 0} (tells : Type 0) (given : ℕ) (old new : Store) (before a
       (λ found. (moves.others told n i found.1 e).name)
       (eqb_tells n m)
 
-  writer_id : (a : Station U) (i : ℕ) → written_by a ≡ Some i → id_of a ≡ Some i
+  pub writer_id : (a : Station U) (i : ℕ) → written_by a ≡ Some i → id_of a ≡ Some i
   writer_id (station.Source s) i e = absurd (none-some i e)
   writer_id station.Forward i e = e
   writer_id (station.Compute u) i e = e

@@ -1,9 +1,11 @@
 -- What a firing leaves.
-use Rattle.std.proofs.Common.{◌≡◌, ℕ, ◌<◌, List, ◌++◌, Option, None, Some, Result, Ok, get_or, slice_index_or, refl, ◌∙◌, ap, arith, ℤ, pos, length}
+use Rattle.std.proofs.Common.{◌≡◌, ℕ, ◌<◌, List, ◌++◌, Option, None, Some, Result, Ok, Err, subst, get_or, slice_index_or, refl, ◌∙◌, ap, arith, ℤ, pos, length}
 use Rattle.std.proofs.lemmas.List.{get_or-map}
 use Rattle.std.proofs.lemmas.List.FromFn.{get_or-range_with_len, length-range_with_len}
 use Rattle.std.specs.List.{range_with_len}
-use Rattle.bursts.specs.Writers.{HasPut, Puts}
+use Rattle.array_bytes.specs.Written.{begun}
+use Rattle.soda_io.specs.declared.error.IoErr.{IoErr}
+use Rattle.bursts.specs.Writers.{HasPut, IsPrefix, Output, Puts, output}
 use Rattle.bursts.specs.declared.writer.CellWriter.{CellWriter}
 use Rattle.file_modules.specs.Firings.{lane_of, lanes_of}
 
@@ -19,3 +21,10 @@ pub was_put : (w : CellWriter) (before cells : List ℤ) (now : Option (List ℕ
     → (more : List ℕ) × (now ≡ Some more) × HasPut w (before ++ cells) more
 was_put w before cells None h = absurd h
 was_put w before cells (Some bytes) h = (bytes, refl, h)
+
+-- after a put with an error the file is there, and holds a prefix
+pub put_failed : (w : CellWriter) (o : Output) (had cells : List ℤ) (now : Option (List ℕ)) (e : IoErr) → output w ≡ o → Puts w had cells now (Err e)
+    → (more : List ℕ) × (now ≡ Some more) × IsPrefix more (begun o.form o.ty o.run (had ++ cells))
+put_failed w o had cells None e same h = absurd h
+put_failed w o had cells (Some bytes) e same h =
+    (bytes, refl, subst (λ (q : Output). IsPrefix bytes (begun q.form q.ty q.run (had ++ cells))) same h)

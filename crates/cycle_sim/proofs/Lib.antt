@@ -1,5 +1,10 @@
+pub mod Lanes
 pub mod Sent
+pub mod Ranges
 pub mod Moving
 pub mod Leaving
 pub mod Keeping
 pub mod After
+pub mod Passing
+pub mod Stopping
+pub mod Run

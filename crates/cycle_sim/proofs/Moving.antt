@@ -55,7 +55,7 @@ read_less s r same le =
     subst P (sym same) (more_before s.reads.unroll s.reads.delay (kind s.reads.reader).cells s.done r.done le)
 
 -- the good cells of its file, where its content stays
-same_good : (old new : Store) (s r : SourceStation) → source r.reads ≡ source s.reads → content new (read_id s) ≡ content old (read_id s)
+pub same_good : (old new : Store) (s r : SourceStation) → source r.reads ≡ source s.reads → content new (read_id s) ≡ content old (read_id s)
     → good_in new r ≡ good_in old s
 same_good old new s r same kept =
     ap (λ (x : Source). cells_in x.kind (content new x.kind.id)) same ∙ ap (cells_in (kind s.reads.reader)) kept
@@ -107,7 +107,7 @@ module _ {U : Type 0} (tells : Type 0) (units : Units U) (c : Settings) (given :
       (cases_lt n (length stations))
 
   -- a firing among the others
-  pub moves : (m : ℕ) (is : Station U) (new : Store) → m < length stations → GoesOn (station_at stations m) is
+  unfoldable pub moves : (m : ℕ) (is : Station U) (new : Store) → m < length stations → GoesOn (station_at stations m) is
       → (tells → Touches given store new (station_at stations m)) → Moves tells given store new stations (slice_set stations m is) m
   moves m is new lt on touch = record {
     known = lt;

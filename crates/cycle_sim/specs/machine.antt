@@ -1,2 +1,3 @@
 -- What describes a firing of one module, and no public definition but by its name.
 pub mod Firings
+pub mod Going

@@ -1,14 +1,16 @@
 ghost use Rattle.std.specs.Prelude.{◌≡◌, ℕ, ◌<◌, List, ℤ, length};
+ghost use Rattle.int_types.specs.Ranges.{InRange};
 ghost use Rattle.net_ir.specs.Nets.{exits};
 ghost use Rattle.net_ir.specs.declared.network.Module.TheVariants.{Sink};
 ghost use Rattle.net_cycles.specs.Streams.{port_values, sent_values};
 ghost use Rattle.soda_ir.specs.Points.{listed};
+ghost use Rattle.staged_cells.specs.Cells.{type_at};
 ghost use Rattle.staged_cells.specs.Streams.{cell_number, module_at, stage_cell};
 ghost use Rattle.cycle_sim.specs.Settings.{AreInputs, IsSettings, Settings, net_in, plan_in, streams_over};
 ghost use Rattle.cycle_sim.specs.Sends.{SendsBy, exit_lanes};
 
 use net_ir::queues_stand_in_order;
-use staged_cells::{modules_send_streams, sinks_take_arrays};
+use staged_cells::{modules_send_streams, sinks_take_arrays, stage_cells_are_in_range};
 
 /// A module that sends what `SendsBy` says, where its ports hold the streams of its queues, sends the items of the
 /// streams of the queues from it.
@@ -32,4 +34,12 @@ pub fn sinks_of_a_run_take()
         c.program.unroll }
 {
     sinks_take_arrays()
+}
+
+/// The cells of a staged tensor are in the range of its type.
+pub fn cells_of_a_run_are_in_range()
+    ensures { (c : Settings) (inputs : List (List ℤ)) (v : ℕ) (z : ℤ) → IsSettings c → AreInputs c inputs
+        → InRange (type_at c.program v) (stage_cell c.program c.rows c.params inputs v z) }
+{
+    stage_cells_are_in_range()
 }

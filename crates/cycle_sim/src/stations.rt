@@ -1,10 +1,10 @@
-ghost use Rattle.std.specs.Prelude.{◌≡◌, ℕ, ◌+◌, ◌<◌, ◌≤◌, ◌^◌, ℤ, pos, length, All, OnOk, slice_index, slice_index_or};
+ghost use Rattle.std.specs.Prelude.{◌≡◌, ℕ, ◌+◌, ◌<◌, ◌≤◌, ◌^◌, ℤ, pos, length, All, IfErr, OnOk, slice_index, slice_index_or};
 ghost use Rattle.soda_io.specs.Store.{content};
 ghost use Rattle.bursts.specs.Blocks.{FailsNow, IsWanted, ReadCause, ReadsOn, cells_in};
 ghost use Rattle.bursts.specs.Readers.{is_done, kind};
 ghost use Rattle.file_modules.specs.Modules.{FaultIs, read_before, source};
 ghost use Rattle.cycle_sim.specs.Stations.{SourceAt, lane_cell};
-ghost use Rattle.cycle_sim.specs.machine.Firings.{Fired, GoesOn, MayFire, SendsAll, Touches};
+ghost use Rattle.cycle_sim.specs.machine.Firings.{Fired, GoesOn, MayFire, SendsAll, Stops, Touches};
 
 use crate::{Stop, Unit};
 use array_bytes::CellFault;
@@ -148,6 +148,8 @@ impl<U: Unit> Station<U> {
             (F.store files.old) (F.store files.new) «firing» ports.now sends.new self.old self.new) }
         ensures later { F.faults files.old ≤ F.faults files.new }
         ensures kept { OnOk result (F.faults files.new ≡ F.faults files.old) }
+        ensures stopped { IfErr result (Stops F.tells (F.store files.old) (F.store files.new) (F.faults files.old)
+            (F.faults files.new) «firing» ports.now self.old) }
     {
         match self {
             Station::Source(source) => match source.fire(files, firing, sends) {

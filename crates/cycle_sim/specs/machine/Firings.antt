@@ -1,10 +1,18 @@
 -- A firing of one module: what it relies on, what it does to the files, and what it leaves.
 use Rattle.std.specs.Prelude.{◌≡◌, ◌≢◌, ℕ, ◌+◌, ◌<◌, ◌≤◌, false, All, List, ◌++◌, ℤ, pos, ◌+ℤ◌, ◌<ℤ◌, ◌^◌, map, length, slice_index, slice_index_or, slice_set, Some}
+use Rattle.std.specs.Prelude.{Err}
+use Rattle.soda_io.specs.Cause.{Rose}
+use Rattle.soda_io.specs.declared.error.IoErr.TheVariants as io
+use Rattle.array_bytes.specs.Written.{begun}
+use Rattle.array_bytes.specs.declared.fault.CellFault.TheVariants as cell
 use Rattle.soda_io.specs.Store.{KeepsIds, Store, content}
 use Rattle.int_types.specs.Ranges.{wrapped}
-use Rattle.bursts.specs.Writers.{HasPut, output}
-use Rattle.file_modules.specs.Modules.{handed_by, read_before, sink, source}
+use Rattle.bursts.specs.Readers.{kind}
+use Rattle.bursts.specs.Writers.{HasPut, IsPrefix, output}
+use Rattle.file_modules.specs.Modules.{FaultIs, handed_by, read_before, sink, source}
 use Rattle.cycle_sim.specs.Stations.{SourceAt, Units, good_in, id_of, lane_cell, read_id, station_at, write_id, written_by}
+use Rattle.cycle_sim.specs.Stopped.{OfInput, OfOutput}
+use Rattle.cycle_sim.specs.declared.stop.Stop.{Stop}
 use Rattle.cycle_sim.specs.declared.stations.SourceStation.{SourceStation}
 use Rattle.cycle_sim.specs.declared.stations.SinkStation.{SinkStation}
 use Rattle.cycle_sim.specs.declared.stations.Station.{Station}
@@ -74,6 +82,22 @@ Fired tells units given old new k ports sends (Sink s) t = OfSink t (λ r. tells
     × (new.bytes (new.name (write_id s)) ≡ Some more) × HasPut r.writes.writer
     (before ++ map (wrapped (output s.writes.writer).ty) (handed_by (sink s.writes) k ports)) more)
     × SendsAll sends (pos 0)
+
+-- what stops a firing: a source its file's first fault or a failed read, a sink a failed write, behind which its file
+-- holds a prefix of the bytes that begin with the cells put
+abbrev pub Stops : {U : Type 0} → (tells : Type 0) → (old new : Store) → (before now firing : ℕ) → (ports : List ℤ)
+    → Station U → Stop → Type 0
+Stops tells old new before now k ports (Source s) stop = OfInput stop (λ input fault. (input ≡ s.input)
+    × (tells → FaultIs (kind s.reads.reader) (content old (read_id s)) (read_before (source s.reads) (k + 1)) (Err fault))
+    × (fault ≡ cell.Failed → Rose before now))
+Stops tells old new before now k ports Forward stop = ⊥
+Stops tells old new before now k ports (Compute u) stop = ⊥
+Stops tells old new before now k ports (Sink s) stop = OfOutput stop (λ number error. (number ≡ s.output)
+    × (tells → (had : List ℤ) (bytes : List ℕ) → old.bytes (old.name (write_id s)) ≡ Some bytes
+    → HasPut s.writes.writer had bytes → (more : List ℕ) × (new.bytes (new.name (write_id s)) ≡ Some more)
+    × IsPrefix more (begun (output s.writes.writer).form (output s.writes.writer).ty (output s.writes.writer).run
+    (had ++ map (wrapped (output s.writes.writer).ty) (handed_by (sink s.writes) k ports))))
+    × (error ≡ io.Failed → Rose before now))
 
 -- The bytes, the name and the place of an id stay.
 pub record Spares (old new : Store) (i : ℕ) : Type 0 where

@@ -1,9 +1,12 @@
-use Rattle.std.proofs.Common.{◌+◌, refl, sym, subst}
-use Rattle.cycle_sim.specs.machine.Firings.{Fired, GoesOn}
+use Rattle.std.proofs.Common.{◌+◌, refl, sym, ap, subst}
+use Rattle.std.proofs.Common.{Err}
+use Rattle.file_modules.specs.Modules as of
+use Rattle.cycle_sim.specs.machine.Firings.{Fired, GoesOn, Stops}
+use Rattle.cycle_sim.specs.declared.stop.Stop.TheVariants.{Output}
 use Rattle.cycle_sim.specs.Stations.{SourceAt, Units}
 use Rattle.cycle_sim.specs.declared.stations.SinkStation.{SinkStation}
 use Rattle.cycle_sim.specs.declared.stations.Station.TheVariants.{Sink, Source}
-use Rattle.cycle_sim.proofs.Leaving.{was_put}
+use Rattle.cycle_sim.proofs.Leaving.{put_failed, was_put}
 use Rattle.cycle_sim.proofs.stations.Station.fire.Goals as goal
 
 pub returns-in-Ok-clause-on : goal.returns-in-Ok-clause-on
@@ -43,3 +46,15 @@ returns-in-Ok-fire-clause-fired g c =
     subst (λ a. Fired g.F.Files.tells units (g.F.Files.given c.args.files.now) (g.F.Files.store c.args.files.now)
     (g.F.Files.store c.fire-in-Sink.new.files) c.args.firing c.args.ports.now c.send_same-in-Sink.new.sends a (Sink new)) (sym c.in-Sink.is)
     ((λ told before bytes e h. was_put _ before _ _ (c.in-Ok-fire.ensures.put told before bytes e h)), c.send_same-in-Sink.ensures.sent)
+
+pub returns-in-Err-fire-clause-stopped : goal.returns-in-Err-fire-clause-stopped
+returns-in-Err-fire-clause-stopped g c =
+    subst (λ a. Stops g.F.Files.tells (g.F.Files.store c.args.files.now) (g.F.Files.store c.fire-in-Sink.new.files)
+    (g.F.Files.faults c.args.files.now) (g.F.Files.faults c.fire-in-Sink.new.files) c.args.firing c.args.ports.now a
+    (Output c.in-Sink.sink.output c.in-Err-fire.error)) (sym c.in-Sink.is) (
+      refl,
+      λ told had bytes e h.
+          put_failed _ _ had _ _ c.in-Err-fire.error (ap (λ (x : of.Sink). x.output) c.fire-in-Sink.ensures.kept)
+          (c.in-Err-fire.ensures.put told had bytes e h),
+      λ failed. c.in-Err-fire.ensures.cause.failed (ap Err failed),
+    )

@@ -1,0 +1,144 @@
+-- What holds where a firing of a module was stopped.
+use Rattle.std.proofs.Common.{◌≡◌, ◌≢◌, ℕ, ◌+◌, ◌<◌, ◌≤◌, ◌++◌, List, [], length, length-take, take, map, slice_index, Some, None, Err, refl, sym, ap, subst, ◌∙◌, arith, ℤ, ⊎_elim, append-nil}
+use Rattle.std.proofs.lemmas.Bool.Decides.{eqb_tells}
+use Rattle.std.proofs.lemmas.Bool.{cases_lt}
+use Rattle.std.proofs.lemmas.Option.{none-some}
+use Rattle.std.proofs.lemmas.List.{get_or_past, take-take}
+use Rattle.soda_io.specs.Cause.{Rose}
+use Rattle.soda_io.specs.Store.{Store, content}
+use Rattle.array_bytes.specs.Written.{begun}
+use Rattle.bursts.specs.Readers.{kind}
+use Rattle.bursts.specs.Writers.{HasPut, IsPrefix, Output, output}
+use Rattle.file_modules.specs.Firings.{cells_before}
+use Rattle.file_modules.specs.Modules.{FaultIs, read_before, sink, source}
+use Rattle.file_modules.specs.Modules as of
+use Rattle.net_ir.specs.declared.network.Module.{Module}
+use Rattle.net_ir.specs.declared.network.Module.TheVariants.{Sink}
+use Rattle.staged_cells.specs.Streams.{module_at, tensor_of}
+use Rattle.cycle_sim.specs.Settings.{AreInputs, Settings, array_cells, array_over, net_in}
+use Rattle.cycle_sim.specs.Stations.{AreBegun, AreReady, IsSinkOf, StationAt, Units, id_of, read_id, station_at, write_id, written_by}
+use Rattle.cycle_sim.specs.Stopped.{CauseIs, HoldPrefixes, IsStopped}
+use Rattle.cycle_sim.specs.machine.Firings.{GoesOn, Moves, OfSink, Stops}
+use Rattle.cycle_sim.specs.declared.stop.Stop.{Stop}
+use Rattle.cycle_sim.specs.declared.stop.Stop.TheVariants as stops
+use Rattle.cycle_sim.specs.declared.stations.SinkStation.{SinkStation}
+use Rattle.cycle_sim.specs.declared.stations.Station.{Station}
+use Rattle.cycle_sim.specs.declared.stations.Station.TheVariants as station
+use Rattle.cycle_sim.proofs.After.{HandsOn}
+use Rattle.cycle_sim.proofs.Keeping.{station_kept}
+use Rattle.cycle_sim.proofs.Moving.{begun_before, other, there}
+
+-- the bytes that begin with cells
+abbrev pub begun_by : Output → List ℤ → List ℕ
+begun_by o cells = begun o.form o.ty o.run cells
+
+-- a file whose bytes begin with so many of these cells
+abbrev pub HoldsPart : Store → Output → (array : List ℤ) → Type 0
+HoldsPart store o array =
+    (count : ℕ) × (bytes : List ℕ) × (store.bytes (store.name o.id) ≡ Some bytes) × IsPrefix bytes (begun o.form o.ty o.run (take count array))
+
+-- what a sink has put is one
+put_part : (store : Store) (s : SinkStation) (array : List ℤ) (count : ℕ) (bytes : List ℕ) → store.bytes (store.name (write_id s)) ≡ Some bytes
+    → HasPut s.writes.writer (take count array) bytes → HoldsPart store (output s.writes.writer) array
+put_part store s array count bytes is h =
+    let o : Output = output s.writes.writer in
+    let few : h.lags.there ≤ count = omega (arith, h.lags.all, length-take count array) in (
+      h.lags.there,
+      bytes,
+      is,
+      record {
+        rest = [];
+        same = sym (h.lags.written ∙ ap (begun o.form o.ty o.run) (take-take h.lags.there count array few)) ∙ sym (append-nil bytes);
+      },
+    )
+
+module _ {U : Type 0} (tells : Type 0) (given : ℕ) (old new : Store) (before after : List (Station U)) (m k p q : ℕ)
+    (moves : Moves tells given old new before after m) (ports : List ℤ) where
+  -- its cause
+  cause_is : (a : Station U) → station_at before m ≡ a → (stop : Stop) → Stops tells old new p q k ports a stop
+      → CauseIs tells new after p q m k stop
+  cause_is (station.Source s) was (stops.Input input fault) h =
+      let on = subst (λ a. GoesOn a moves.is) was moves.on in (
+        on.0,
+        there tells given old new before after m moves ∙ on.1,
+        h.0 ∙ sym on.3,
+        λ told. subst (λ (x : of.Source). FaultIs x.kind (content new x.kind.id) (read_before x (k + 1)) (Err fault)) (sym on.2)
+            (subst (λ b. FaultIs (kind s.reads.reader) b (read_before (source s.reads) (k + 1)) (Err fault)) (sym (moves.read told s was)) (h.1 told)),
+        h.2,
+      )
+  cause_is (station.Source s) was (stops.Output number error) h = absurd h
+  cause_is station.Forward was stop h = absurd h
+  cause_is (station.Compute u) was stop h = absurd h
+  cause_is (station.Sink s) was (stops.Input input fault) h = absurd h
+  cause_is (station.Sink s) was (stops.Output number error) h =
+      let on = subst (λ a. GoesOn a moves.is) was moves.on in
+      (on.0, there tells given old new before after m moves ∙ on.1, h.0 ∙ sym on.3, h.2)
+
+  module _ (units : Units U) (c : Settings) (told : tells) (inputs : List (List ℤ)) (arrays : AreInputs c inputs)
+      (begun : AreBegun new after inputs) where
+    -- the sink that was stopped
+    own_part : (a : Station U) → station_at before m ≡ a → StationAt tells units c given old before m k (module_at (net_in c) m) a
+        → ((v : ℕ) (s : SinkStation) → a ≡ station.Sink s → module_at (net_in c) m ≡ Sink v → IsSinkOf c m v s → HandsOn tells units c given old new before after m k moves ports ports v s)
+        → (stop : Stop) → Stops tells old new p q k ports a stop → (v : ℕ) (s : SinkStation) → moves.is ≡ station.Sink s
+        → module_at (net_in c) m ≡ Sink v → HoldsPart new (output s.writes.writer) (array_over c inputs v)
+    own_part (station.Source r) was at hands stop h v s is kind =
+        absurd (none-some (write_id s) (ap written_by (sym (subst (λ a. GoesOn a moves.is) was moves.on).1 ∙ is)))
+    own_part station.Forward was at hands stop h v s is kind =
+        absurd (none-some (write_id s) (ap written_by (sym (subst (λ a. GoesOn a moves.is) was moves.on) ∙ is)))
+    own_part (station.Compute u) was at hands stop h v s is kind =
+        absurd (none-some (write_id s) (ap written_by (sym (subst (λ a. GoesOn a moves.is) was moves.on).1 ∙ is)))
+    own_part (station.Sink t) was at hands (stops.Input input fault) h v s is kind = absurd h
+    own_part (station.Sink t) was at hands (stops.Output number error) h v s is kind =
+        let on = subst (λ a. GoesOn a moves.is) was moves.on in
+        let same : at.0 ≡ v = ap tensor_of (sym at.1 ∙ kind) in
+        let had = at.3.put told inputs arrays (begun_before tells given old new before after m moves told inputs begun) in
+        let more = h.1 told _ had.0 had.1 had.2 in
+        let o : Output = output t.writes.writer in
+        let part : HoldsPart new o (array_over c inputs v) = (
+          cells_before c.program.unroll (slice_index c.delays at.0) (array_cells c) (k + 1),
+          more.0,
+          more.1,
+          subst (λ w. IsPrefix more.0 (begun_by o (take (cells_before c.program.unroll (slice_index c.delays at.0) (array_cells c) (k + 1)) (array_over c inputs w)))) same
+              (subst (λ xs. IsPrefix more.0 (begun_by o xs)) (hands at.0 t refl at.1 at.2 told inputs arrays begun) more.2),
+        ) in
+        let P : SinkStation → Type 0 = λ x. HoldsPart new (output x.writes.writer) (array_over c inputs v) in
+        subst (λ a. OfSink a P) (sym on.1 ∙ is)
+        (subst (λ (x : of.Sink). HoldsPart new x.output (array_over c inputs v)) (sym on.2) part)
+
+    -- another sink
+    other_part : (n i : ℕ) (kind : Module) (a : Station U) → station_at before n ≡ a → n ≢ m → StationAt tells units c given old before n i kind a
+        → (v : ℕ) (s : SinkStation) → a ≡ station.Sink s → kind ≡ Sink v → HoldsPart new (output s.writes.writer) (array_over c inputs v)
+    other_part n i kind a was ne at v s is named =
+        let kept = subst (StationAt tells units c given new after n i kind) is (station_kept tells given old new before after m moves units c n i kind a was ne at) in
+        let same : kept.0 ≡ v = ap tensor_of (sym kept.1 ∙ named) in
+        let put = kept.3.put told inputs arrays begun in
+        subst (λ w. HoldsPart new (output s.writes.writer) (array_over c inputs w)) same
+        (put_part new s (array_over c inputs kept.0) (cells_before c.program.unroll (slice_index c.delays kept.0) (array_cells c) i) put.0 put.1 put.2)
+
+  -- a run that was stopped in this firing
+  pub was_stopped : (units : Units U) (c : Settings) (fired : List ℕ) → k ≡ slice_index fired m → AreReady tells units c given old before fired
+      → length after ≡ length before
+      → ((v : ℕ) (s : SinkStation) → station_at before m ≡ station.Sink s → module_at (net_in c) m ≡ Sink v
+      → IsSinkOf c m v s → HandsOn tells units c given old new before after m k moves ports ports v s)
+      → (stop : Stop) → Stops tells old new p q k ports (station_at before m) stop → IsStopped tells c new after p q m k stop
+  was_stopped units c fired at ready same hands stop h = record {
+    cause = cause_is (station_at before m) refl stop h;
+    prefixes = λ told n v s is kind inputs arrays begun.
+        ⊎_elim
+        (λ found.
+        let e : n ≡ m = found.1 in
+        own_part units c told inputs arrays begun (station_at before m) refl
+        (subst (λ i. StationAt tells units c given old before m i (module_at (net_in c) m) (station_at before m)) (sym at) (ready.each m moves.known))
+        hands stop h v s (sym (there tells given old new before after m moves) ∙ ap (station_at after) (sym e) ∙ is)
+        (ap (module_at (net_in c)) (sym e) ∙ kind))
+        (λ found.
+        let was : station_at before n ≡ station.Sink s = sym (other tells given old new before after m moves n found.1) ∙ is in
+        ⊎_elim
+        (λ (lt : n < length before).
+        other_part units c told inputs arrays begun n (slice_index fired n) (module_at (net_in c) n) (station_at before n) refl found.1
+        (ready.each n lt) v s was kind)
+        (λ (le : length before ≤ n).
+        absurd (none-some (write_id s) (sym (ap id_of (get_or_past before n station.Forward le)) ∙ ap id_of was)))
+        (cases_lt n (length before)))
+        (eqb_tells n m);
+  }

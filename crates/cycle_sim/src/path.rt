@@ -1,0 +1,69 @@
+ghost use Rattle.std.specs.Prelude.{◌≡◌, ◌<◌, ◌^◌, slice_index};
+ghost use Rattle.cycle_sim.specs.Settings.{net_in};
+ghost use Rattle.cycle_sim.specs.Stations.{AgreesWith, AreReady};
+ghost use Rattle.cycle_sim.specs.Stopped.{IsStopped};
+ghost use Rattle.cycle_sim.specs.Onward.{Onward};
+ghost use Rattle.cycle_sim.specs.Paths.{settings};
+ghost use Rattle.cycle_sim.specs.machine.Going.{first_stays, one_follows, stopped_since};
+
+use crate::laws::{cells_of_a_run_are_in_range, modules_of_a_run_send, sinks_of_a_run_take};
+use crate::stations::Station;
+use crate::{Stop, Unit};
+use array_bytes::Form;
+use net_cycles::Datapath;
+use net_ir::Network;
+use soda_io::Files;
+use soda_ir::Program;
+
+/// What the modules of the network of a program under its delays compute, over files: the cells of the inputs are read
+/// from theirs, and those of the outputs written to theirs, firing by firing.
+#[derive(Drop)]
+pub struct FilePath<U> {
+    program: Program,
+    delays: Vec<u64>,
+    rows: u64,
+    params: Vec<i128>,
+    form: Form,
+    stations: Vec<Station<U>>,
+}
+
+impl<F: Files, U: Unit> Datapath<F> for FilePath<U> {
+    type Fault = Stop;
+
+    ghost agrees = { λ d files net stream.
+        AgreesWith F.tells (settings d) (F.store files) d.stations.items stream };
+
+    ghost ready = { λ d files net fired. (net ≡ net_in (settings d)) × AreReady F.tells
+        (record { value = U.value; place = U.place; step = U.step; count = U.count }) (settings d) (F.given files)
+        (F.store files) d.stations.items fired };
+
+    ghost relies = { λ d net fired m. slice_index fired m < 2 ^ 40 };
+
+    ghost onward = { λ d files e later. Onward F.tells (settings d) (settings e) (F.given files) (F.given later)
+        (F.store files) (F.store later) d.stations.items e.stations.items (F.faults files) (F.faults later) };
+
+    ghost stopped = { λ d files e later net fired m stop. IsStopped F.tells (settings e) (F.store later)
+        e.stations.items (F.faults files) (F.faults later) m (slice_index fired m) stop };
+
+    ghost stays = { λ d files. first_stays F.tells (settings d) (F.given files) (F.store files) d.stations.items
+        (F.faults files) };
+
+    ghost follows = { λ a b c x y z one two. one_follows one two };
+
+    ghost since = { λ a b c x y z net fired m stop one two. stopped_since one.faults two };
+
+    fn fire(
+        &mut self,
+        files: &mut F,
+        _net: &Network,
+        module: u32,
+        fired: &[u64],
+        ports: &[i128],
+        sends: &mut [i128],
+    ) -> Result<(), Stop> {
+        modules_of_a_run_send();
+        sinks_of_a_run_take();
+        cells_of_a_run_are_in_range();
+        self.stations[module as usize].fire(files, fired[module as usize], ports, sends)
+    }
+}
