@@ -24,7 +24,7 @@ use soda_eval::formulas_are_readable;
 use soda_ir::Program;
 use soda_words::Ty;
 use sqlite_items::Items;
-use staged_cells::{formulas_read_ports, stages_have_dimensions};
+use staged_cells::{Unit, formulas_read_ports, stages_have_dimensions};
 use std::alloc::Global;
 use time_stages::{Staged, StagedTensor};
 
@@ -184,17 +184,18 @@ impl ComputeModule {
             Spot::Outside => border_value(&self.border, ports),
         }
     }
+}
 
-    /// One firing: what the module sends, where its ports hold these values, in the order of their numbers. They are
-    /// wrapped to the types of what is read. Cells have numbers below 2^60.
-    pub fn next(&mut self, ports: &[i128]) -> i128
-        requires small { place_of self.old <ℤ pos (2 ^ 60) }
-        ensures value { result ≡ value_of self.old ports.now (place_of self.old) }
-        ensures same { value_of self.new ≡ value_of self.old }
-        ensures place { place_of self.new ≡ place_of self.old +ℤ pos (step_of self.old) }
-        ensures step { step_of self.new ≡ step_of self.old }
-        ensures count { count_of self.new ≡ count_of self.old }
-    {
+impl Unit for ComputeModule {
+    ghost value = { value_of };
+
+    ghost place = { place_of };
+
+    ghost step = { step_of };
+
+    ghost count = { count_of };
+
+    fn next(&mut self, ports: &[i128]) -> i128 {
         let value = self.sent(ports);
         self.walk.go_on();
         value

@@ -4,8 +4,7 @@
 mod laws;
 mod stations;
 mod stop;
-mod unit;
 
 pub use laws::{modules_of_a_run_send, sinks_of_a_run_take};
+pub use staged_cells::Unit;
 pub use stop::Stop;
-pub use unit::Unit;

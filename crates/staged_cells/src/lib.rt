@@ -1,11 +1,12 @@
 //! The regions and cells of staged tensors: what a computing module sends, from what its ports hold; and the streams of
-//! a program's network, which its queues carry.
+//! a program's network, which its queues carry; and what a computing module has to be.
 #![tactic(auto)]
 
 mod laws;
 mod module;
 mod ports;
 mod region;
+mod unit;
 
 pub use laws::{
     formulas_read_ports, inputs_are_staged_first, items_are_by_module, lists_are_streams,
@@ -15,3 +16,4 @@ pub use laws::{
 pub use module::{cell_of, is_output, output_number};
 pub use ports::port_of;
 pub use region::in_region;
+pub use unit::Unit;

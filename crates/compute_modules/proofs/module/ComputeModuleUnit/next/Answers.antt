@@ -1,7 +1,7 @@
 use Rattle.std.proofs.Common.{refl, ◌∙◌}
 use Rattle.compute_modules.specs.declared.module.ComputeModule.{ComputeModule}
 use Rattle.compute_modules.proofs.Modules.{same_value}
-use Rattle.compute_modules.proofs.module.ComputeModule.next.Goals as goal
+use Rattle.compute_modules.proofs.module.ComputeModuleUnit.next.Goals as goal
 
 pub returns-clause-same : goal.returns-clause-same
 returns-clause-same c =
