@@ -1,5 +1,5 @@
 //! Computing modules for a simulator: what `cell_of` of staged cells gives firing by firing, from the compiled formula,
-//! with nothing searched for, taken from memory or divided in a firing.
+//! with nothing searched for or taken from memory in a firing.
 #![tactic(auto)]
 
 mod formula;
