@@ -5,9 +5,8 @@ mod laws;
 mod path;
 mod stations;
 mod stop;
-mod unit;
 
 pub use laws::{cells_of_a_run_are_in_range, modules_of_a_run_send, sinks_of_a_run_take};
 pub use path::FilePath;
+pub use staged_cells::Unit;
 pub use stop::Stop;
-pub use unit::Unit;

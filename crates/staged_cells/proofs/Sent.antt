@@ -5,7 +5,7 @@ use Rattle.std.specs.Ordering.{int_eq}
 use Rattle.std.proofs.lemmas.Bool.{and_from, and_parts, eqb-true, false≢true, lt-ltb, ltb-true, or_cases, or_left, or_right, true≢false}
 use Rattle.std.proofs.lemmas.Bool.Decides.{Decides-int_eq}
 use Rattle.std.proofs.lemmas.Int.{ints}
-use Rattle.std.proofs.lemmas.List.{get_or-map, length-map}
+use Rattle.std.proofs.lemmas.List.{get_or-map, get_or_default, length-map}
 use Rattle.std.proofs.lemmas.List.Folds.{list_any-append}
 use Rattle.std.proofs.lemmas.List.Sums.{passes_at_first}
 use Rattle.soda_words.specs.IntType.{IntType, int32}
@@ -16,7 +16,7 @@ use Rattle.soda_ir.specs.declared.program.Border.{Border}
 use Rattle.soda_ir.specs.declared.program.Border.TheVariants.{Ignore, Preserve}
 use Rattle.soda_ir.specs.declared.program.Role.{Role}
 use Rattle.soda_ir.specs.declared.program.Role.TheVariants.{Input, Local, Output}
-use Rattle.soda_ir.specs.Counts.{border_reads, count_below, does_read, formula_in, formula_reads, is_input, is_output, is_output_role, output_number, tensor_reads}
+use Rattle.soda_ir.specs.Counts.{border_reads, count_below, does_read, formula_in, formula_reads, is_input, is_input_role, is_output, is_output_role, output_number, tensor_reads}
 use Rattle.soda_ir.specs.Formula.{Formula, number, read, param, unary, binary, choice, cast, by_formula, every}
 use Rattle.soda_ir.specs.Points.{linear}
 use Rattle.soda_ir.specs.Program.{PlainProgram, PlainTensor, extents_at, input_types, outputs_of, preserves}
@@ -33,7 +33,7 @@ use Rattle.time_stages.specs.Margins.{keeps_away}
 use Rattle.time_stages.specs.Staged.{number_read, read_by, reads_of, source_of, staged_reads, staged_tensor, staged_tensors, type_of}
 use Rattle.time_stages.proofs.CallerLemmas.{border_is_input, count_first, each_staged, get_at, own_margins, own_turn, place_in, place_within, reads_by_it, same_as, source_staged, true_or_not}
 use Rattle.region_margins.proofs.CallerLemmas.{region_margins}
-use Rattle.staged_cells.specs.Cells.{IsNumber, PortsHold, cell_at, defined_cell, held, inner_cell, outer_cell, port_of, port_types, reads_by, sent_cell, type_at as staged_type}
+use Rattle.staged_cells.specs.Cells.{IsNumber, PortsHold, border_port, cell_at, cell_port, defined_cell, held, inner_cell, outer_cell, port_of, port_types, reads_by, sent_cell, type_at as staged_type}
 
 -- ---- lists
 
@@ -135,6 +135,12 @@ border_is p x = border_by p.border p.tensors x
 border_read : (b : Bool) (j : ℕ) → b ≡ true → list_any (same_as j (pos 0)) (if b then record { of = j; offset = pos 0 } ∷ [] else []) ≡ true
 border_read true j e = or_left (j == j && int_eq (pos 0) (pos 0)) false (itself j (pos 0))
 border_read false j e = absurd (false≢true e)
+
+-- an input is there
+input_below : (ts : List PlainTensor) (y : ℕ) → (elim (slice_get ts y) [ None ↦ false | Some t ↦ is_input_role t.role ]) ≡ true → y < length ts
+input_below [] y h = absurd (false≢true h)
+input_below (t ∷ ts) zero h = omega arith
+input_below (t ∷ ts) (suc y) h = omega (arith, input_below ts y h)
 
 -- a value at its place is of its type
 pub value_at_place : (types : List IntType) (vs : List ℤ) (j : ℕ) → HasValues types vs → j < length types
@@ -269,6 +275,22 @@ module _ (p : PlainProgram) (sound : IsSound p) (rows : ℕ) (params : List ℤ)
       ∙ ap (λ c. if c then wrapped (type_at stencil s.tensor)
       (valued stencil.scope (λ y o. value y (moved q o)) params f) else outside_cell stencil g s.tensor q) r
 
+  -- each cell that a formula names is among the reads of its tensor
+  all_read : (f : Formula) → formula_in p s.tensor ≡ Some f → every (is_read_in (extents_at p 1) (tensor_reads p s.tensor)) f ≡ true
+  all_read f d =
+      let ns = extents_at p 1 in
+      every_weaker (is_read_in ns (formula_reads ns f)) (is_read_in ns (tensor_reads p s.tensor)) (λ y o h.
+      ap (λ rs. is_read_in ns (rs ++ border_reads p s.tensor) y o) (ap (λ k. by_formula k [] (formula_reads ns)) d)
+      ∙ in_first ns (formula_reads ns f) (border_reads p s.tensor) y o h) f (own_reads ns f)
+
+  -- under preserve an output reads the input of its number
+  border_occurs : (preserves p && is_output p s.tensor) ≡ true → list_any (same_as (output_number p s.tensor) (pos 0)) (tensor_reads p s.tensor) ≡ true
+  border_occurs h =
+      let j = output_number p s.tensor in
+      let own = by_formula (formula_in p s.tensor) [] (formula_reads (extents_at p 1)) in
+      list_any-append (same_as j (pos 0)) own (border_reads p s.tensor)
+      ∙ or_right (list_any (same_as j (pos 0)) own) (list_any (same_as j (pos 0)) (border_reads p s.tensor)) (border_read (preserves p && is_output p s.tensor) j h)
+
   module _ (i : ℕ) (there : i < cells_at p rows) (ports : List ℤ) (hold : PortsHold p rows params inputs v (pos i) ports) (f : Formula)
       (d : formula_in p s.tensor ≡ Some f) where
     abbrev q : List ℤ
@@ -288,44 +310,32 @@ module _ (p : PlainProgram) (sound : IsSound p) (rows : ℕ) (params : List ℤ)
         port_holds i ports hold y (linear (extents_at p 1) o) k both.1 back.1 (read_number p.extents rows i o there (good_length p y o first.0) inside)
         ∙ ap (value y) back.2
 
-    all_read : every (is_read_in (extents_at p 1) (tensor_reads p s.tensor)) f ≡ true
-    all_read =
-        let ns = extents_at p 1 in
-        every_weaker (is_read_in ns (formula_reads ns f)) (is_read_in ns (tensor_reads p s.tensor)) (λ y o h.
-        ap (λ rs. is_read_in ns (rs ++ border_reads p s.tensor) y o) (ap (λ k. by_formula k [] (formula_reads ns)) d)
-        ∙ in_first ns (formula_reads ns f) (border_reads p s.tensor) y o h) f (own_reads ns f)
-
     inner_is : region s.tensor q ≡ true → inner_cell p params v s ports ≡ value s.tensor q
     unfolding inner_cell
     inner_is r =
         ap (λ h. wrapped (type_of p s.tensor) (by_formula h (pos 0) (valued (scope_of p) (held p v s ports) params))) d
         ∙ ap (wrapped (type_of p s.tensor)) (valued_same test (scope_of p) params (held p v s ports) (λ y o. value y (moved q o)) held_same f
         (every_both (λ y o. is_good_cell p y o && region y (moved q o)) (is_read_in (extents_at p 1) (tensor_reads p s.tensor)) f
-        (every_both (is_good_cell p) (λ y o. region y (moved q o)) f (reads_good p s.tensor f (countable p sound) d) (region_parts f q d r)) all_read))
+        (every_both (is_good_cell p) (λ y o. region y (moved q o)) f (reads_good p s.tensor f (countable p sound) d) (region_parts f q d r)) (all_read f d)))
         ∙ sym (by_region f q true d r)
 
     -- outside it
-    border_port : (b : Bool) → (preserves p && is_output p s.tensor) ≡ b
+    border_held : (b : Bool) → (preserves p && is_output p s.tensor) ≡ b
         → (if b then slice_index_or ports (port_of (staged_reads p) v (number_read p ts s.turn (output_number p s.tensor)) (pos 0)) (pos 0) else pos 0) ≡ elim
         (if b then Some (output_number p s.tensor) else None) [ None ↦ pos 0 | Some j ↦ g.cell j q ]
-    border_port false h = refl
-    border_port true h =
+    border_held false h = refl
+    border_held true h =
         let j = output_number p s.tensor in
         let turn = own_turn p v s sound e in
         let both = and_parts (preserves p) (is_output p s.tensor) h in
-        let ns = extents_at p 1 in
-        let occurs : list_any (same_as j (pos 0)) (tensor_reads p s.tensor) ≡ true =
-        list_any-append (same_as j (pos 0)) (by_formula (formula_in p s.tensor) [] (formula_reads ns)) (border_reads p s.tensor)
-        ∙ or_right (list_any (same_as j (pos 0)) (by_formula (formula_in p s.tensor) [] (formula_reads ns)))
-        (list_any (same_as j (pos 0)) (border_reads p s.tensor)) (border_read (preserves p && is_output p s.tensor) j h) in
         let at : (pos i +ℤ pos 0) ≡ pos i = ap pos (let k : i + 0 ≡ i = omega arith in k) in
-        port_holds i ports hold j (pos 0) i occurs there at
+        port_holds i ports hold j (pos 0) i (border_occurs h) there at
         ∙ input_cell g j q (border_is_input p sound both.0 s.tensor turn.2 both.1)
 
     outer_is : region s.tensor q ≡ false → outer_cell p v s ports ≡ value s.tensor q
     unfolding outer_cell
     outer_is r =
-        border_port (preserves p && is_output p s.tensor) refl
+        border_held (preserves p && is_output p s.tensor) refl
         ∙ ap (λ (o : Option ℕ). elim o [ None ↦ pos 0 | Some j ↦ g.cell j q ]) (sym (border_is p s.tensor))
         ∙ sym (by_region f q false d r)
 
@@ -355,10 +365,10 @@ module _ (p : PlainProgram) (sound : IsSound p) (rows : ℕ) (params : List ℤ)
       (λ (h : c ≡ false). ap (λ b. type_of p (if b then staged_tensor p (s.turn - 2) o else staged_tensor p (s.turn - 1) y).tensor) h)
       (true_or_not c)
 
-  held_in_range : (ports : List ℤ) → HasValues (port_types p v) ports → (y : ℕ) (d : ℤ) → y < length p.tensors
-      → list_any (same_as y d) (tensor_reads p s.tensor) ≡ true
-      → InRange (type_of p y) (slice_index_or ports (port_of (staged_reads p) v (number_read p ts s.turn y) d) (pos 0))
-  held_in_range ports have y d l occurs =
+  -- the port that serves a read has the type of what is read
+  port_typed : (y : ℕ) (d : ℤ) → y < length p.tensors → list_any (same_as y d) (tensor_reads p s.tensor) ≡ true
+      → slice_get (port_types p v) (port_of (staged_reads p) v (number_read p ts s.turn y) d) ≡ Some (type_of p y)
+  port_typed y d l occurs =
       let n = number_read p ts s.turn y in
       let u = source_of p s.turn y in
       let reads : does_read p s.tensor y ≡ true =
@@ -377,25 +387,46 @@ module _ (p : PlainProgram) (sound : IsSound p) (rows : ℕ) (params : List ℤ)
       ∙ get_or-map (λ (w : StagedTensor). type_of p w.tensor) ts n u int32 at.0
       ∙ ap (λ (w : StagedTensor). type_of p w.tensor) at.1
       ∙ type_of_source y l in
-      subst (λ t. InRange t (slice_index_or ports j (pos 0))) type
-      (value_at_place (port_types p v) ports j have (omega (arith, within, length-map list (λ (q : Read). staged_type p q.of))))
+      get_at (port_types p v) j int32 (omega (arith, within, length-map list (λ (q : Read). staged_type p q.of))) ∙ ap Some type
+
+  held_in_range : (ports : List ℤ) → HasValues (port_types p v) ports → (y : ℕ) (d : ℤ) → y < length p.tensors
+      → list_any (same_as y d) (tensor_reads p s.tensor) ≡ true
+      → InRange (type_of p y) (slice_index_or ports (port_of (staged_reads p) v (number_read p ts s.turn y) d) (pos 0))
+  held_in_range ports have y d l occurs =
+      let j = port_of (staged_reads p) v (number_read p ts s.turn y) d in
+      let at = place_in (port_types p v) j (type_of p y) (port_typed y d l occurs) in
+      let type : slice_index_or (port_types p v) j int32 ≡ type_of p y = get_or_default (port_types p v) j int32 (type_of p y) at.0 ∙ at.1 in
+      subst (λ t. InRange t (slice_index_or ports j (pos 0))) type (value_at_place (port_types p v) ports j have at.0)
+
+  -- a fact of each cell that its formula names
+  each_read : (A : ℕ → List ℤ → Type 0)
+      → ((y : ℕ) (o : List ℤ) → y < length p.tensors → is_read_in (extents_at p 1) (tensor_reads p s.tensor) y o ≡ true → A y o)
+      → (f : Formula) → formula_in p s.tensor ≡ Some f → Each A f
+  each_read A h f d =
+      let ns = extents_at p 1 in
+      each_from (λ y o. is_good_cell p y o && is_read_in ns (tensor_reads p s.tensor) y o) A
+      (λ y o k. let both = and_parts (is_good_cell p y o) (is_read_in ns (tensor_reads p s.tensor) y o) k in h y o (good_there p y o both.0) both.1)
+      f (every_both (is_good_cell p) (is_read_in ns (tensor_reads p s.tensor)) f (reads_good p s.tensor f (countable p sound) d) (all_read f d))
+
+  pub formula_typed : (f : Formula) → formula_in p s.tensor ≡ Some f
+      → Each (λ y o. slice_get (port_types p v) (cell_port p v s y o) ≡ Some (type_of p y)) f
+  formula_typed = each_read (λ y o. slice_get (port_types p v) (cell_port p v s y o) ≡ Some (type_of p y)) (λ y o. port_typed y (linear (extents_at p 1) o))
+
+  pub border_typed : (preserves p && is_output p s.tensor) ≡ true
+      → slice_get (port_types p v) (border_port p v s) ≡ Some (type_of p (output_number p s.tensor))
+  border_typed h =
+      let both = and_parts (preserves p) (is_output p s.tensor) h in
+      let input = border_is_input p sound both.0 s.tensor (own_turn p v s sound e).2 both.1 in
+      port_typed (output_number p s.tensor) (pos 0) (input_below p.tensors (output_number p s.tensor) input) (border_occurs h)
 
   pub formula_in_range : (ports : List ℤ) → HasValues (port_types p v) ports → (f : Formula) → formula_in p s.tensor ≡ Some f
       → Each (λ y o. InRange (slice_index_or (scope_of p).tensors y int32) (held p v s ports y o)) f
-  formula_in_range ports have f d =
-      let ns = extents_at p 1 in
-      let all : every (is_read_in ns (tensor_reads p s.tensor)) f ≡ true =
-      every_weaker (is_read_in ns (formula_reads ns f)) (is_read_in ns (tensor_reads p s.tensor)) (λ y o h.
-      ap (λ rs. is_read_in ns (rs ++ border_reads p s.tensor) y o) (ap (λ k. by_formula k [] (formula_reads ns)) d)
-      ∙ in_first ns (formula_reads ns f) (border_reads p s.tensor) y o h) f (own_reads ns f) in
-      each_from (λ y o. is_good_cell p y o && is_read_in ns (tensor_reads p s.tensor) y o)
-      (λ y o. InRange (slice_index_or (scope_of p).tensors y int32) (held p v s ports y o))
-      (λ y o h. let both = and_parts (is_good_cell p y o) (is_read_in ns (tensor_reads p s.tensor) y o) h in held_in_range ports have y (linear ns o)
-      (good_there p y o both.0) both.1)
-      f (every_both (is_good_cell p) (is_read_in ns (tensor_reads p s.tensor)) f (reads_good p s.tensor f (countable p sound) d) all)
+  formula_in_range ports have =
+      each_read (λ y o. InRange (slice_index_or (scope_of p).tensors y int32) (held p v s ports y o))
+      (λ y o. held_in_range ports have y (linear (extents_at p 1) o))
 
   -- a staged tensor that is no input has a formula
-  formula_there : is_input p s.tensor ≡ false → (o : Option Formula) → formula_in p s.tensor ≡ o → (f : Formula) × (formula_in p s.tensor ≡ Some f)
+  pub formula_there : is_input p s.tensor ≡ false → (o : Option Formula) → formula_in p s.tensor ≡ o → (f : Formula) × (formula_in p s.tensor ≡ Some f)
   formula_there h None d =
       absurd (true≢false (sym (bare_input p.tensors s.tensor sound.parts.formulas (own_turn p v s sound e).2 d) ∙ h))
   formula_there h (Some f) d = (f, d)

@@ -49,11 +49,19 @@ abbrev pub port_of : List Read → (reader of : ℕ) → (offset : ℤ) → ℕ
 port_of reads reader of offset =
     position_or_len (λ r. r.of == of && int_eq r.offset offset) (reads_by reads reader)
 
+-- the port that serves a cell that a staged tensor's formula names
+abbrev pub cell_port : PlainProgram → (number : ℕ) → StagedTensor → ℕ → List ℤ → ℕ
+cell_port p v s y o =
+    port_of (staged_reads p) v (number_read p (staged_tensors p) s.turn y) (linear (extents_at p 1) o)
+
+-- the port of an output's added read
+abbrev pub border_port : PlainProgram → (number : ℕ) → StagedTensor → ℕ
+border_port p v s =
+    port_of (staged_reads p) v (number_read p (staged_tensors p) s.turn (output_number p s.tensor)) (pos 0)
+
 -- what the port holds that serves a cell of the formula
 abbrev pub held : PlainProgram → (number : ℕ) → StagedTensor → (ports : List ℤ) → ℕ → List ℤ → ℤ
-held p v s ports y o =
-    slice_index_or ports (port_of (staged_reads p) v (number_read p (staged_tensors p) s.turn y)
-    (linear (extents_at p 1) o)) (pos 0)
+held p v s ports y o = slice_index_or ports (cell_port p v s y o) (pos 0)
 
 -- the value of a staged tensor's formula, where its ports hold these
 unfoldable pub inner_cell : PlainProgram → (params : List ℤ) → (number : ℕ) → StagedTensor → (ports : List ℤ) → ℤ
@@ -64,8 +72,7 @@ inner_cell p params v s ports =
 -- what it is outside its region: 0, or under preserve what the port of an output's added read holds
 unfoldable pub outer_cell : PlainProgram → (number : ℕ) → StagedTensor → (ports : List ℤ) → ℤ
 outer_cell p v s ports =
-    if preserves p && is_output p s.tensor then slice_index_or ports (port_of (staged_reads p) v
-    (number_read p (staged_tensors p) s.turn (output_number p s.tensor)) (pos 0)) (pos 0) else pos 0
+    if preserves p && is_output p s.tensor then slice_index_or ports (border_port p v s) (pos 0) else pos 0
 
 -- what a computing module of a staged tensor sends for the cell of a number, where its ports hold these
 unfoldable pub sent_cell : PlainProgram → (rows : ℕ) → (params : List ℤ) → (number : ℕ) → StagedTensor

@@ -1,17 +1,19 @@
-ghost use Rattle.std.specs.Prelude.{◌≡◌, ℕ, ◌+◌, ◌-◌, ◌*◌, ◌<◌, ◌≤◌, ◌↔◌, List, [], Some, ℤ, pos, length, map, min, true, slice_get, slice_index, slice_index_or};
+ghost use Rattle.std.specs.Prelude.{◌≡◌, ℕ, ◌+◌, ◌-◌, ◌*◌, ◌<◌, ◌≤◌, ◌↔◌, ◌&&◌, List, [], Some, ℤ, pos, length, map, min, false, true, slice_get, slice_index, slice_index_or};
 ghost use Rattle.int_types.specs.Ranges.{InRange};
 ghost use Rattle.net_ir.specs.declared.network.Module.TheVariants.{Compute, Forward, Sink, Source};
 ghost use Rattle.net_ir.specs.Firings.{firings_at};
 ghost use Rattle.net_ir.specs.Nets.{Net, entrances, exits, queue_at};
 ghost use Rattle.net_build.specs.Planned.{firings_for, net_under, plan_of};
-ghost use Rattle.soda_ir.specs.Counts.{is_input};
+ghost use Rattle.soda_ir.specs.Counts.{formula_in, is_input, is_output, output_number};
+ghost use Rattle.soda_ir.specs.Formula.{Formula};
 ghost use Rattle.soda_ir.specs.Points.{listed};
-ghost use Rattle.soda_ir.specs.Program.{PlainProgram, input_types};
+ghost use Rattle.soda_ir.specs.Program.{PlainProgram, extents_at, input_types, preserves};
 ghost use Rattle.soda_ir.specs.Valid.{IsSound};
+ghost use Rattle.soda_eval.specs.Arrays.{Each};
 ghost use Rattle.soda_eval.specs.Runs.{HasArrays, HasValues, cells_at, defined_arrays};
 ghost use Rattle.time_stages.specs.declared.staging.StagedTensor.{StagedTensor};
 ghost use Rattle.time_stages.specs.Staged.{staged_tensors, type_of};
-ghost use Rattle.staged_cells.specs.Cells.{defined_cell, port_types, sent_cell};
+ghost use Rattle.staged_cells.specs.Cells.{border_port, cell_port, defined_cell, port_types, sent_cell};
 ghost use Rattle.staged_cells.specs.Sends.{
   AreLonger,
   AreSent,
@@ -55,6 +57,27 @@ pub fn stage_cells_are_in_range()
         (z : ℤ) → IsSound p → slice_get (staged_tensors p) v ≡ Some s
         → HasArrays (cells_at p rows) (input_types p.tensors) inputs → is_input p s.tensor ≡ true
         → defined_cell p rows params inputs s z ≡ numbered (slice_index_or inputs s.tensor []) z }
+{}
+
+/// Each cell that the formula of a staged tensor names is read at a port of its type; so is, under preserve, the input
+/// that an output keeps outside its region. A staged tensor that is no input has a formula.
+pub fn formulas_read_ports()
+    ensures cells { (p : PlainProgram) (v : ℕ) (s : StagedTensor) (f : Formula) → IsSound p
+        → slice_get (staged_tensors p) v ≡ Some s → formula_in p s.tensor ≡ Some f
+        → Each (λ y o. slice_get (port_types p v) (cell_port p v s y o) ≡ Some (type_of p y)) f }
+    ensures border { (p : PlainProgram) (v : ℕ) (s : StagedTensor) → IsSound p
+        → slice_get (staged_tensors p) v ≡ Some s → (preserves p && is_output p s.tensor) ≡ true
+        → slice_get (port_types p v) (border_port p v s) ≡ Some (type_of p (output_number p s.tensor)) }
+    ensures formula { (p : PlainProgram) (v : ℕ) (s : StagedTensor) → IsSound p
+        → slice_get (staged_tensors p) v ≡ Some s → is_input p s.tensor ≡ false
+        → (f : Formula) × (formula_in p s.tensor ≡ Some f) }
+{}
+
+/// The margins of a staged tensor are as many as there are dimensions.
+pub fn stages_have_dimensions()
+    ensures { (p : PlainProgram) (rows v : ℕ) (s : StagedTensor) → IsSound p
+        → slice_get (staged_tensors p) v ≡ Some s → (length s.low ≡ length (extents_at p rows))
+        × (length s.high ≡ length (extents_at p rows)) }
 {}
 
 /// The inputs are staged first, each at its own number, in the first iteration alone.

@@ -21,8 +21,8 @@ use soda_eval::{eval, tensor_type};
 use soda_ir::{Parts, Program};
 use time_stages::{Staged, number_read};
 
-// Whether a tensor is an output.
-fn is_output(parts: &Parts, tensor: u32) -> bool
+/// Whether a tensor is an output.
+pub fn is_output(parts: &Parts, tensor: u32) -> bool
     ensures { result ≡ is_output (plain parts.now) tensor }
 {
     match parts.tensors.get(tensor as usize) {
@@ -31,8 +31,8 @@ fn is_output(parts: &Parts, tensor: u32) -> bool
     }
 }
 
-// How many outputs stand before a tensor.
-fn output_number(parts: &Parts, tensor: u32) -> u32
+/// How many outputs stand before a tensor.
+pub fn output_number(parts: &Parts, tensor: u32) -> u32
     ensures value { result ≡ output_number (plain parts.now) tensor }
     ensures most { result ≤ tensor }
 {

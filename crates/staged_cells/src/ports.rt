@@ -77,8 +77,9 @@ fn one_if(test: bool) -> usize
     if test { 1 } else { 0 }
 }
 
-// The port of a read: how many reads of its reader stand before it.
-fn port_of(reads: &[Read], reader: u32, of: u32, offset: i128) -> usize
+/// The port of a read, by its reader, what is read and how far away it stands: how many reads of its reader stand
+/// before it. Where there is no such read, it is the number of the reader's reads.
+pub fn port_of(reads: &[Read], reader: u32, of: u32, offset: i128) -> usize
     ensures { result ≡ port_of reads.now reader of offset }
 {
     let mut port = 0;

@@ -1,0 +1,5 @@
+pub mod Sides
+pub mod Walks
+pub mod Taps
+pub mod Formulas
+pub mod Modules

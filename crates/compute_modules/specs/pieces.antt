@@ -1,0 +1,3 @@
+pub mod Formulas
+pub mod Taps
+pub mod Walks
