@@ -1,0 +1,16 @@
+//! The text of a design, read back: the design, or the line at which the text is refused.
+#![tactic(auto)]
+
+mod fail;
+mod limits;
+mod networks;
+mod plans;
+mod programs;
+mod reading;
+mod totals;
+
+pub use fail::TextFail;
+pub use limits::MOST_DESIGN_TEXT;
+pub use reading::read_design;
+/// Want of memory.
+pub use std::alloc::AllocError as NoMemory;
