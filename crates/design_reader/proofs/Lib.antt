@@ -5,3 +5,4 @@ pub mod Behind
 pub mod First
 pub mod Ending
 pub mod Made
+pub mod Unrefused
