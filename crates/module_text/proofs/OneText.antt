@@ -1,20 +1,20 @@
 -- No two designs have one text.
-use Rattle.std.proofs.Common.{◌≡◌, ℕ, suc, ◌+◌, ◌<◌, ◌≤◌, ◌^◌, List, [], ◌∷◌, ◌++◌, length, slice_index, refl, sym, ap, subst, ◌∙◌, codes, arith, append_assoc}
+use Rattle.std.proofs.Common.{◌≡◌, ℕ, ◌<◌, ◌≤◌, ◌^◌, List, [], ◌∷◌, ◌++◌, length, slice_index, refl, sym, ap, subst, ◌∙◌, codes, arith, append_assoc}
 use Rattle.std.proofs.lemmas.Grind.{flat_map-append}
 use Rattle.std.proofs.lemmas.List.{append_cancel_left}
 use Rattle.delay_net.specs.Windows.{age, at_least_0, storage_of, total_storage}
 use Rattle.delay_net.specs.declared.net.Read.{Read}
 use Rattle.module_text.specs.Designs.{IsDesign, PlainDesign}
 use Rattle.soda_ir.specs.Program.{PlainProgram}
-use Rattle.soda_print.specs.Canonical.{ended}
-use Rattle.design_lines.specs.PlanLines.{numbered, plan_lines, read_line, read_lines, tensor_line, tensor_lines, total_line}
+use Rattle.soda_parse.proofs.CallerLemmas.{alone}
+use Rattle.soda_print.specs.Canonical.{canonical, ended}
+use Rattle.design_lines.specs.PlanLines.{numbered, read_line, read_lines, tensor_line, tensor_lines, total_line}
 use Rattle.time_stages.specs.declared.staging.StagedTensor.{StagedTensor}
 use Rattle.time_stages.specs.Staged.{staged_reads, staged_tensors, staged_widths}
 use Rattle.std.specs.List.{All}
 use Rattle.design_lines.specs.Lines.{program_lines}
 use Rattle.net_build.proofs.CallerLemmas.{widths_length}
 use Rattle.module_text.specs.Texts.{IsDesignText, Version, design_text, lines_behind}
-use Rattle.soda_print.proofs.CallerLemmas.{ended-append}
 use Rattle.design_lines.proofs.CallerLemmas.{numbered_apart, read_apart, same_list, small_at, tensor_apart}
 use Rattle.design_lines.proofs.CallerLemmas.{AreAlone, program_apart}
 
@@ -51,7 +51,7 @@ reads_told : (rs : List Read) (old : Read → ℕ) (hs ns gs ms : List ℕ) (x y
     → length ms ≡ length rs → ((n : ℕ) → slice_index hs n < 2 ^ 64) → ((n : ℕ) → slice_index ns n < 2 ^ 64) → ((n : ℕ) → slice_index gs n < 2 ^ 64)
     → ((n : ℕ) → slice_index ms n < 2 ^ 64)
     → ended (numbered (λ n r. read_line n r (old r) (slice_index hs n) (slice_index ns n)) 0 rs) ++ x
-    ≡ ended (numbered (λ n r. read_line n r (old r) (slice_index gs n) (slice_index ms n)) 0 rs) ++ y → (hs ≡ gs) × (ns ≡ ms)
+    ≡ ended (numbered (λ n r. read_line n r (old r) (slice_index gs n) (slice_index ms n)) 0 rs) ++ y → (hs ≡ gs) × (ns ≡ ms) × (x ≡ y)
 reads_told rs old hs ns gs ms x y mh mn mg mm sh sn sg sm e =
     let all = numbered_apart (Both hs ns gs ms) (λ n r. read_line n r (old r) (slice_index hs n) (slice_index ns n))
     (λ n r. read_line n r (old r) (slice_index gs n) (slice_index ms n)) 0 rs x y
@@ -59,17 +59,18 @@ reads_told rs old hs ns gs ms x y mh mn mg mm sh sn sg sm e =
     ((told.0, told.1), told.2)) e in (
       same_list hs gs (mh ∙ sym mg) (λ n lt. (all.0 n (omega arith) (omega arith)).0),
       same_list ns ms (mn ∙ sym mm) (λ n lt. (all.0 n (omega arith) (omega arith)).1),
+      all.1,
     )
 
 short_at : (xs : List ℕ) (n bound : ℕ) → slice_index xs n < bound → bound ≤ 2 ^ 64 → slice_index xs n < 2 ^ 64
 short_at xs n bound h le = omega arith
 
--- the same program and one text, and so one design
-same_plan : (v : Version) (d e : PlainDesign) → d.program ≡ e.program → IsDesign d → IsDesign e
-    → ended (tensor_lines d.program d.delays) ++ (ended (read_lines d.program d.delays d.hold d.need) ++ from_total v d)
-    ≡ ended (tensor_lines d.program e.delays) ++ (ended (read_lines d.program e.delays e.hold e.need) ++ from_total v e)
-    → d ≡ e
-same_plan v d e same hd he h =
+-- the same program, and one text of its plan, whatever follows it, and so one design
+pub same_plan : (d e : PlainDesign) (x y : List ℕ) → d.program ≡ e.program → IsDesign d → IsDesign e
+    → ended (tensor_lines d.program d.delays) ++ (ended (read_lines d.program d.delays d.hold d.need) ++ x)
+    ≡ ended (tensor_lines d.program e.delays) ++ (ended (read_lines d.program e.delays e.hold e.need) ++ y)
+    → (d ≡ e) × (x ≡ y)
+same_plan d e x y same hd he h =
     let p = d.program in
     let P : PlainProgram → Type 0 = λ q. (length e.delays ≡ length (staged_widths q)) × (length e.hold ≡ length (staged_reads q)) × (length e.need ≡ length (staged_reads q)) in
     let many : P p = subst P (sym same) (he.assignment, he.holds, he.needs) in
@@ -78,22 +79,28 @@ same_plan v d e same hd he h =
     let fits : (xs : List ℕ) → All (λ x. x < 2 ^ 32) xs → (n : ℕ) → slice_index xs n < 2 ^ 64 =
     λ xs all n. short_at xs n (2 ^ 32) (small_at (2 ^ 32) xs n (omega arith) all) (omega arith) in
     let first = tensors_told p d.delays e.delays (storage_of (staged_reads p) d.delays) (storage_of (staged_reads p) e.delays)
-    (ended (read_lines p d.delays d.hold d.need) ++ from_total v d) (ended (read_lines p e.delays e.hold e.need) ++ from_total v e)
+    (ended (read_lines p d.delays d.hold d.need) ++ x) (ended (read_lines p e.delays e.hold e.need) ++ y)
     (hd.assignment ∙ widths_length p) (many.0 ∙ widths_length p) small small' h in
-    let later : ended (read_lines p d.delays d.hold d.need) ++ from_total v d ≡ ended (read_lines p d.delays e.hold e.need) ++ from_total v e =
-    first.1 ∙ ap (λ ds. ended (read_lines p ds e.hold e.need) ++ from_total v e) (sym first.0) in
-    let told = reads_told (staged_reads p) (λ r. at_least_0 (age d.delays r)) d.hold d.need e.hold e.need (from_total v d) (from_total v e)
+    let later : ended (read_lines p d.delays d.hold d.need) ++ x ≡ ended (read_lines p d.delays e.hold e.need) ++ y =
+    first.1 ∙ ap (λ ds. ended (read_lines p ds e.hold e.need) ++ y) (sym first.0) in
+    let told = reads_told (staged_reads p) (λ r. at_least_0 (age d.delays r)) d.hold d.need e.hold e.need x y
     hd.holds hd.needs many.1 many.2 (fits d.hold hd.small_holds) (fits d.need hd.small_needs) (fits e.hold he.small_holds) (fits e.need he.small_needs) later in
-    let D : PlainProgram → List ℕ → List ℕ → List ℕ → PlainDesign = λ q ds hs ns. record { program = q; delays = ds; hold = hs; need = ns } in
-    ap (λ q. D q d.delays d.hold d.need) same ∙ ap (λ ds. D e.program ds d.hold d.need) first.0 ∙ ap (λ hs. D e.program e.delays hs d.need) told.0
-    ∙ ap (λ ns. D e.program e.delays e.hold ns) told.1
+    let D : PlainProgram → List ℕ → List ℕ → List ℕ → PlainDesign = λ q ds hs ns. record { program = q; delays = ds; hold = hs; need = ns } in (
+      ap (λ q. D q d.delays d.hold d.need) same ∙ ap (λ ds. D e.program ds d.hold d.need) first.0 ∙ ap (λ hs. D e.program e.delays hs d.need) told.0
+          ∙ ap (λ ns. D e.program e.delays e.hold ns) told.1,
+      told.2,
+    )
+
+-- no two written programs have one canonical text
+pub each_alone : AreAlone
+each_alone p q hp hq same = alone (canonical q) q p hq.valid hq.sized refl hp.valid hp.sized same
 
 -- no two designs have one text
-pub one_design : AreAlone → (v : Version) (bytes : List ℕ) (d e : PlainDesign) → IsDesignText v bytes d → IsDesignText v bytes e → d ≡ e
-one_design alone v bytes d e hd he =
+pub one_design : (v : Version) (bytes : List ℕ) (d e : PlainDesign) → IsDesignText v bytes d → IsDesignText v bytes e → d ≡ e
+one_design v bytes d e hd he =
     let rest : PlainDesign → PlainProgram → List ℕ = λ c q. ended (tensor_lines q c.delays) ++ (ended (read_lines q c.delays c.hold c.need) ++ from_total v c) in
     let both : (v.first ++ codes "\n") ++ (ended (program_lines d.program) ++ rest d d.program) ≡ (v.first ++ codes "\n") ++ (ended (program_lines e.program) ++ rest e e.program) =
     sym (text_flat v d) ∙ (sym hd.text ∙ (he.text ∙ text_flat v e)) in
     let behind_first = append_cancel_left (v.first ++ codes "\n") (ended (program_lines d.program) ++ rest d d.program) (ended (program_lines e.program) ++ rest e e.program) both in
-    let programs = program_apart alone d.program e.program (rest d d.program) (rest e e.program) hd.program he.program behind_first in
-    same_plan v d e programs.0 hd.design he.design (programs.1 ∙ ap (rest e) (sym programs.0))
+    let programs = program_apart each_alone d.program e.program (rest d d.program) (rest e e.program) hd.program he.program behind_first in
+    (same_plan d e (from_total v d) (from_total v e) programs.0 hd.design he.design (programs.1 ∙ ap (rest e) (sym programs.0))).0

@@ -2,11 +2,13 @@
 //! less storage, and the network of these; it has one text.
 #![tactic(auto)]
 
+mod copying;
 mod held;
 mod laws;
 mod making;
 mod printing;
 
+pub use copying::copy_design;
 pub use held::Design;
 pub use laws::texts_are_apart;
 pub use making::design;

@@ -1,0 +1,5 @@
+pub mod Limits
+pub mod Told
+pub mod Stops
+pub mod Refused
+pub mod machine

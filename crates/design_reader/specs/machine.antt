@@ -1,0 +1,2 @@
+-- What describes the code, and is no part of what it promises.
+pub mod Pieces

@@ -1,0 +1,11 @@
+ghost use Rattle.std.specs.Prelude.{◌≡◌, ◌≤◌, ℕ, List, length};
+ghost use Rattle.design_reader.specs.Limits.{most_design_text};
+ghost use Rattle.design_reader.specs.Refused.{IsRefusedLine};
+ghost use Rattle.module_text.specs.Designs.{PlainDesign};
+ghost use Rattle.module_text.specs.Texts.{IsDesignText, Version};
+
+/// No text of a design has a refused line, unless it is longer than the limit.
+pub fn texts_of_designs_are_not_refused()
+    ensures { (v : Version) (bytes : List ℕ) (d : PlainDesign) (line : ℕ) → length bytes ≤ most_design_text
+        → IsDesignText v bytes d → IsRefusedLine v bytes line → ⊥ }
+{}

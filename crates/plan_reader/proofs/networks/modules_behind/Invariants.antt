@@ -1,9 +1,0 @@
-use Rattle.std.proofs.Common.{◌≡◌, ◌++◌, take}
-use Rattle.design_lines.specs.PlanLines.{numbered}
-use Rattle.soda_print.specs.Canonical.{ended}
-use Rattle.design_lines.specs.Lines.{module_line}
-use Rattle.plan_reader.proofs.networks.modules_behind.Given as goal
-
--- the lines so far
-abbrev pub invariant-loop-number : goal.invariant-loop-number
-invariant-loop-number l = l.text ≡ ended (numbered module_line 0 (take l.number l.modules)) ++ l.rest

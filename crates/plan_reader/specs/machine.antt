@@ -1,2 +1,0 @@
--- What describes the code, and is no part of what it promises.
-pub mod Stops
