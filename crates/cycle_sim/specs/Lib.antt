@@ -5,3 +5,4 @@ pub mod Stopped
 pub mod Onward
 pub mod Paths
 pub mod machine
+pub mod Running
