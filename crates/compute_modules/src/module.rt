@@ -195,6 +195,19 @@ impl Unit for ComputeModule {
 
     ghost count = { count_of };
 
+    fn make(
+        alloc: Global,
+        program: &Program,
+        staging: &Staged,
+        rows: u64,
+        params: &[i128],
+        tensor: u32,
+        first: i64,
+        stride: u32,
+    ) -> Result<ComputeModule, NoMemory> {
+        ComputeModule::new(alloc, program, staging, rows, params, tensor, first, stride)
+    }
+
     fn next(&mut self, ports: &[i128]) -> i128 {
         let value = self.sent(ports);
         self.walk.go_on();
