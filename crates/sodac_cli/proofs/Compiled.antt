@@ -1,5 +1,5 @@
 -- A job that writes a module text, behind the judging of its program.
-use Rattle.std.proofs.Common.{◌≡◌, ◌⊎◌, ℕ, ◌+◌, false, List, [], ◌∷◌, ◌++◌, length, take, Option, Some, None, option_map, Result, Ok, Err, refl, sym, ap, subst, ◌∙◌, arith, inl, inr, take_all}
+use Rattle.std.proofs.Common.{◌≡◌, ℕ, ◌+◌, false, List, [], ◌∷◌, ◌++◌, length, take, Option, Some, None, option_map, Result, Ok, Err, refl, sym, ap, subst, ◌∙◌, arith, inl, inr, take_all}
 use Rattle.std.proofs.lemmas.List.Elements.{All-head}
 use Rattle.soda_io.specs.declared.call.FileCall.{FileCall}
 use Rattle.soda_io.specs.declared.error.IoErr.{IoErr}
@@ -21,15 +21,15 @@ use Rattle.job_status.specs.declared.status.Status.{Status}
 use Rattle.job_status.specs.declared.status.Status.TheVariants as is
 use Rattle.sodac_cli.specs.Allowed.{AllowsCompile}
 use Rattle.sodac_cli.specs.Correct.{Runs}
-use Rattle.job_status.specs.Counts.{FileFaults, OutFaults}
+use Rattle.job_status.specs.Counts.{OutFaults}
 use Rattle.sodac_cli.specs.Due.{DueOf, FirstRefusal, MayAsk, RefusalAt, RefusalOf, accepted, asks_module, by_network, limit_status, stages_of}
 use Rattle.sodac_cli.specs.Journal.{AsksAll, ReadsFew}
 use Rattle.sodac_cli.specs.Machine.Modules.{IsDesigned, IsMade, IsOfModules, WritesModules}
-use Rattle.sodac_cli.specs.Machine.Steps.{HasAsked, IsRead}
+use Rattle.sodac_cli.specs.Machine.Steps.{IsRead}
 use Rattle.compile_job.specs.Modules.{IsModuleText, PassesLimit}
 use Rattle.sodac_cli.specs.Outputs.{AreOutputs, Delivers, DeliversBy, Leaves}
 use Rattle.sodac_cli.specs.Printed.{Prints}
-use Rattle.sodac_cli.specs.Work.{AreTexts, AreTextsBy, HasProgram, Product, is_built, makes, module_file, modules_file, program_file, target_of}
+use Rattle.sodac_cli.specs.Work.{AreTexts, AreTextsBy, HasProgram, Product, makes, module_file, modules_file, program_file, target_of}
 use Rattle.sodac_cli.proofs.Begun.{due_built, due_file, runs_due, runs_fault, runs_memory}
 use Rattle.sodac_cli.proofs.Reading.{read_memory}
 use Rattle.sodac_cli.proofs.Refused.{refused_runs}

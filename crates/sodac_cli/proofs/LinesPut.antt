@@ -1,5 +1,5 @@
 -- A job of a mode that only prints, behind the reading of its program.
-use Rattle.std.proofs.Common.{◌≡◌, ◌≤◌, ℕ, true, List, [], ◌∷◌, ◌++◌, take, length, Result, Ok, Some, None, refl, sym, ap, subst, ◌∙◌, arith}
+use Rattle.std.proofs.Common.{◌≡◌, ◌≤◌, ℕ, true, List, [], ◌∷◌, ◌++◌, take, length, Some, None, refl, sym, ap, subst, ◌∙◌}
 use Rattle.soda_io.specs.Store.{Store}
 use Rattle.soda_ir.specs.Program.{PlainProgram}
 use Rattle.std.proofs.lemmas.List.{take_all}

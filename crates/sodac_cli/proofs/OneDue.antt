@@ -11,7 +11,7 @@ use Rattle.net_build.specs.Limits.{limit_passed}
 use Rattle.net_build.specs.Planned.{plan_of}
 use Rattle.array_bytes.specs.declared.fault.CellFault.{CellFault}
 use Rattle.param_lines.specs.Params.{GivesParams, RefusesLine}
-use Rattle.soda_parse.specs.Text.{Accepts, Refuses}
+use Rattle.job_program.specs.Spoken.{RefusesProgram, SpeaksOf}
 use Rattle.soda_parse.specs.declared.refusal.Refusal.{Refusal}
 use Rattle.job_files.specs.Contents.{Holding}
 use Rattle.job_files.specs.Files.{JobFile}
@@ -90,31 +90,31 @@ module _ (plans_one : (weights : List ℕ) (reads : List Read) (first second : L
       let P : Option Status → Type 0 = λ own. RefusalBehind own (FirstRefusal stages a p) s in
       after_one (FirstRefusal stages a p) (first_one stages) x.0 r s x.2 (subst P (sym (at_one stage x.0 y.0 x.1 y.1)) y.2)
 
--- a text stands for one program at most, is refused for one cause at most, and never does both
-module _ (program : (most : ℕ) (bytes : List ℕ) (p q : PlainProgram) → Accepts most bytes p → Accepts most bytes q → p ≡ q)
-    (cause : (most : ℕ) (bytes : List ℕ) (r s : Refusal) → Refuses most bytes r → Refuses most bytes s → r ≡ s)
-    (apart : (most : ℕ) (bytes : List ℕ) (p : PlainProgram) (r : Refusal) → Accepts most bytes p → Refuses most bytes r → ⊥)
+-- of a text one program at most is spoken of, it is refused for one cause at most, and never both
+module _ (program : (most : ℕ) (share : Bool) (bytes : List ℕ) (p q : PlainProgram) → SpeaksOf most share bytes p → SpeaksOf most share bytes q → p ≡ q)
+    (cause : (most : ℕ) (share : Bool) (bytes : List ℕ) (r s : Refusal) → RefusesProgram most share bytes r → RefusesProgram most share bytes s → r ≡ s)
+    (apart : (most : ℕ) (share : Bool) (bytes : List ℕ) (p : PlainProgram) (r : Refusal) → SpeaksOf most share bytes p → RefusesProgram most share bytes r → ⊥)
     (values_one : (ps : List PlainParam) (bytes : List ℕ) (v w : List ℤ) → GivesParams ps bytes v → GivesParams ps bytes w → v ≡ w)
     (line_one : (ps : List PlainParam) (bytes : List ℕ) (k l : ℕ) → RefusesLine ps bytes k → RefusesLine ps bytes l → k ≡ l)
     (never_both : (ps : List PlainParam) (bytes : List ℕ) (v : List ℤ) (l : ℕ) → GivesParams ps bytes v → RefusesLine ps bytes l → ⊥)
     (plans_one : (weights : List ℕ) (reads : List Read) (first second : List ℕ) → IsLeastPlan weights reads first → IsLeastPlan weights reads second → first ≡ second)
     (h : Holding) where
   -- the program's file holds one text
-  accepted_there : (a : Asked) (p : PlainProgram) (bytes : List ℕ) → h (program_of a) ≡ Some bytes → HasProgram h a p → Accepts most_text bytes p
-  accepted_there a p bytes there has =
-      let P : List ℕ → Type 0 = λ x. Accepts most_text x p in
-      subst P (same_Some has.text bytes (sym has.there ∙ there)) has.accepted
+  spoken_there : (a : Asked) (p : PlainProgram) (bytes : List ℕ) → h (program_of a) ≡ Some bytes → HasProgram h a p → SpeaksOf most_text a.share bytes p
+  spoken_there a p bytes there has =
+      let P : List ℕ → Type 0 = λ x. SpeaksOf most_text a.share x p in
+      subst P (same_Some has.text bytes (sym has.there ∙ there)) has.spoken
 
   pub one_program : (a : Asked) (p q : PlainProgram) → HasProgram h a p → HasProgram h a q → p ≡ q
-  one_program a p q x y = program most_text x.text p q x.accepted (accepted_there a q x.text x.there y)
+  one_program a p q x y = program most_text a.share x.text p q x.spoken (spoken_there a q x.text x.there y)
 
   of_one : (a : Asked) (f g : List JobFile) (s t : Status) → DueOf h a f s → DueOf h a g t → (s ≡ t) × (f ≡ g)
   of_one a f g s t (refused text r there gone files ends) (refused other q here lost those stops) =
-      let P : List ℕ → Type 0 = λ x. Refuses most_text x q in
-      let same : r ≡ q = cause most_text text r q gone (subst P (same_Some other text (sym here ∙ there)) lost) in
+      let P : List ℕ → Type 0 = λ x. RefusesProgram most_text a.share x q in
+      let same : r ≡ q = cause most_text a.share text r q gone (subst P (same_Some other text (sym here ∙ there)) lost) in
       (ends ∙ ap (λ (x : Refusal). is.Program x) same ∙ sym stops, files ∙ sym those)
-  of_one a f g s t (refused text r there gone files ends) (accepted p has d) = absurd (apart most_text text p r (accepted_there a p text there has) gone)
-  of_one a f g s t (accepted p has d) (refused text r there gone files ends) = absurd (apart most_text text p r (accepted_there a p text there has) gone)
+  of_one a f g s t (refused text r there gone files ends) (accepted p has d) = absurd (apart most_text a.share text p r (spoken_there a p text there has) gone)
+  of_one a f g s t (accepted p has d) (refused text r there gone files ends) = absurd (apart most_text a.share text p r (spoken_there a p text there has) gone)
   of_one a f g s t (accepted p has d) (accepted q had e) =
       let P : PlainProgram → Type 0 = λ x. DueBehind h a x g t in
       let other : DueBehind h a p g t = subst P (sym (one_program a p q has had)) e in

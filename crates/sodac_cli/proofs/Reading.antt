@@ -10,12 +10,14 @@ use Rattle.soda_io.specs.Store.{KeepsBytes, Store, left}
 use Rattle.whole_files.specs.declared.reading.ReadFail.{ReadFail}
 use Rattle.whole_files.specs.declared.reading.ReadFail.TheVariants as read
 use Rattle.soda_words.specs.Limits.{most_text}
-use Rattle.soda_parse.specs.Text.{Refuses, too_long}
+use Rattle.soda_ir.specs.Program.{PlainProgram}
+use Rattle.soda_parse.specs.Text.{too_long}
 use Rattle.soda_parse.specs.Fails.{IfRefused}
 use Rattle.soda_parse.specs.declared.reading.ParseFail.{ParseFail}
 use Rattle.soda_parse.specs.declared.reading.ParseFail.TheVariants.{Refused}
 use Rattle.soda_parse.specs.declared.refusal.Refusal.{Refusal}
 use Rattle.soda_parse.specs.declared.refusal.Refusal.TheVariants.{TextTooLong}
+use Rattle.job_program.specs.Spoken.{RefusesProgram, SpeaksOf, of_text}
 use Rattle.job_files.specs.Contents.{IsThere}
 use Rattle.job_files.specs.Files.{JobFile, asking}
 use Rattle.job_files.specs.Progress.{Progress, Stuck}
@@ -28,6 +30,7 @@ use Rattle.sodac_cli.specs.Correct.{Runs}
 use Rattle.sodac_cli.specs.Due.{DueOf, asks_none, asks_program, refused}
 use Rattle.job_status.specs.Endings.{due, ending_of}
 use Rattle.sodac_cli.specs.Journal.{AsksAll, ReadsFew}
+use Rattle.sodac_cli.specs.Machine.Steps.{IsRead}
 use Rattle.sodac_cli.specs.Machine.Text.{HasText, unread_status}
 use Rattle.sodac_cli.specs.Outputs.{Delivers, Leaves}
 use Rattle.sodac_cli.specs.Work.{is_built, program_file, program_of}
@@ -120,7 +123,7 @@ module _ (first : ℕ) (begun : Store) (name : List ℕ) (before : ℕ) (mid : S
           let m = reads_program (Err read.TooLong) reads a named in
           runs_due first begun a given now built (leaves_asked first begun a given now keeps (program_file a ∷ []) 0 m.0 refl m.2)
           (program_file a ∷ []) (is.Program TextTooLong) refl
-          (refused (left mid id) TextTooLong (text_there a named) (too_long (long refl)) refl refl)
+          (refused (left mid id) TextTooLong (text_there a named) (of_text (too_long (long refl))) refl refl)
           (record {
             ended = 0;
             places = m.0;
@@ -157,23 +160,37 @@ module _ (first : ℕ) (begun : Store) (a : Asked) (given : ℕ) (now : Store) (
   pub read_memory : Runs first begun (Some a) given now is.Memory
   read_memory = runs_memory first begun a given now built read_leaves (program_file a ∷ []) (asks_program refl) 1 places few progress
 
--- what its text stands for
+-- what its text speaks of
 module _ (first : ℕ) (begun : Store) (a : Asked) (given : ℕ) (now : Store) (text : List ℕ) (w : HasText first begun a given now text)
     (bytes : List ℕ) (same : bytes ≡ text) where
   there : begun.bytes (program_of a) ≡ Some bytes
   there = w.there ∙ ap (λ (xs : List ℕ). Some xs) (sym same)
 
-  pub refused_runs : is_built a ≡ true → (r : Refusal) → Refuses most_text bytes r → Runs first begun (Some a) given now (is.Program r)
+  pub refused_runs : is_built a ≡ true → (r : Refusal) → RefusesProgram most_text a.share bytes r → Runs first begun (Some a) given now (is.Program r)
   refused_runs built r refuses = read_due first begun a given now built w.keeps w.places w.few w.progress (is.Program r) refl
       (refused bytes r there refuses refl refl) (λ e. absurd (cc))
+
+  pub text_read : (p : PlainProgram) → SpeaksOf most_text a.share bytes p → IsRead first begun a p given now
+  text_read p spoken = record {
+    program = record { text = bytes; there = there; spoken = spoken };
+    asked = record { places = w.places; few = w.few; progress = w.progress };
+    keeps = w.keeps;
+  }
 
   pub memory_runs : is_built a ≡ true → Runs first begun (Some a) given now is.Memory
   memory_runs built = read_memory first begun a given now built w.keeps w.places w.few w.progress
 
--- why a text is refused, from what the parser says of its answer
-pub refusal_given : {A : Type 0} (most : ℕ) (bytes : List ℕ) (r : Result A ParseFail) (fail : ParseFail) (refusal : Refusal) → r ≡ Err fail
-    → fail ≡ Refused refusal → IfRefused r (Refuses most bytes) → Refuses most bytes refusal
-refusal_given {A} most bytes r fail refusal is kind refuses =
-    let P : Result A ParseFail → Type 0 = λ x. IfRefused x (Refuses most bytes) in
+-- a text that wasn't read ends the job so
+pub unread_runs : (first : ℕ) (begun : Store) (a : Asked) (given : ℕ) (now : Store) (fail kind : ReadFail) → fail ≡ kind
+    → Runs first begun (Some a) given now (unread_status fail) → Runs first begun (Some a) given now (unread_status kind)
+unread_runs first begun a given now fail kind is runs =
+    let P : ReadFail → Type 0 = λ x. Runs first begun (Some a) given now (unread_status x) in
+    subst P is runs
+
+-- why a text is refused, from what is said of the answer
+pub refusal_given : {A : Type 0} (Cause : Refusal → Type 0) (r : Result A ParseFail) (fail : ParseFail) (refusal : Refusal) → r ≡ Err fail
+    → fail ≡ Refused refusal → IfRefused r Cause → Cause refusal
+refusal_given {A} Cause r fail refusal is kind refuses =
+    let P : Result A ParseFail → Type 0 = λ x. IfRefused x Cause in
     let Q : ParseFail → Type 0 = λ x. P (Err x) in
     subst Q kind (subst P is refuses)

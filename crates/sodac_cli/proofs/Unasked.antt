@@ -1,5 +1,5 @@
 -- A run that asks for no file.
-use Rattle.std.proofs.Common.{◌≡◌, ◌≢◌, ℕ, Bool, true, false, not, ◌&&◌, [], Option, Some, None, refl, sym, ap, subst, ◌∙◌, arith, inl}
+use Rattle.std.proofs.Common.{◌≡◌, ◌≢◌, ℕ, Bool, true, false, [], Option, Some, None, refl, sym, ap, subst, ◌∙◌, arith, inl}
 use Rattle.soda_io.specs.Store.{Store}
 use Rattle.job_files.specs.Contents.{Holding}
 use Rattle.job_files.proofs.CallerLemmas.{begin, created_names, holds_none}
@@ -11,7 +11,7 @@ use Rattle.sodac_cli.specs.Due.{DueFor, DueIf, MayAskFor, MayAskIf, asks_none}
 use Rattle.job_status.specs.Endings.{Ending, due, ending_of, out_fault}
 use Rattle.sodac_cli.specs.Journal.{AsksBy, ReadsFewFor}
 use Rattle.sodac_cli.specs.Outputs.{AreOutputs, Leaves}
-use Rattle.sodac_cli.specs.Work.{is_built, is_built_mode}
+use Rattle.sodac_cli.specs.Work.{is_built}
 use Rattle.sodac_cli.proofs.Few.{few_none}
 
 may_none : (h : Holding) (asked : Option Asked) → MayAskFor h asked []
@@ -71,7 +71,3 @@ pub unbuilt_runs : (first : ℕ) (begun : Store) (a : Asked) → is_built a ≡ 
 unbuilt_runs first begun a unbuilt =
     let P : Bool → Type 0 = λ b. DueIf b begun.bytes a [] is.NotYetBuilt in
     ends first begun (Some a) is.NotYetBuilt refl (subst P (sym unbuilt) (refl, refl)) (λ e. absurd (cc))
-
--- the mode isn't
-pub unbuilt_mode : (a : Asked) → is_built_mode a.mode ≡ false → is_built a ≡ false
-unbuilt_mode a e = ap (λ b. b && not a.share) e

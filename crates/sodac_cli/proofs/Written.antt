@@ -1,5 +1,5 @@
 -- What ends a run that writes its outputs, and how it goes on.
-use Rattle.std.proofs.Common.{◌≡◌, ◌<◌, ℕ, ◌+◌, false, List, [], ◌∷◌, ◌++◌, length, map, take, get_or, slice_index_or, Option, Some, None, Result, Err, ℤ, refl, sym, ap, subst, ◌∙◌, inl, inr, arith, take_all, add-one}
+use Rattle.std.proofs.Common.{◌≡◌, ◌<◌, ℕ, ◌+◌, Bool, false, List, [], ◌∷◌, ◌++◌, length, map, take, get_or, slice_index_or, Option, Some, None, Result, Err, ℤ, refl, sym, ap, subst, ◌∙◌, inl, inr, arith, take_all, add-one}
 use Rattle.std.proofs.lemmas.Option.{same_Some}
 use Rattle.soda_io.specs.declared.error.IoErr.{IoErr}
 use Rattle.soda_io.specs.declared.error.IoErr.TheVariants as io
@@ -10,10 +10,10 @@ use Rattle.soda_words.specs.Limits.{most_text}
 use Rattle.soda_ir.specs.Program.{PlainParam, PlainProgram, input_types}
 use Rattle.soda_ir.specs.Valid.{output_types}
 use Rattle.soda_eval.specs.Runs.{cells_at, defined_arrays}
-use Rattle.soda_parse.specs.Text.{Accepts}
 use Rattle.array_bytes.specs.Written.{array_bytes}
 use Rattle.param_lines.specs.Params.{GivesParams}
 use Rattle.job_arrays.specs.declared.layout.Layout.{Layout}
+use Rattle.job_program.specs.Spoken.{SpeaksOf}
 use Rattle.job_files.specs.Contents.{Holding, Holds, PutsTo, emptied}
 use Rattle.job_files.specs.Progress.{Progress}
 use Rattle.job_files.specs.Steps.{WritesTo}
@@ -32,14 +32,14 @@ use Rattle.sodac_cli.proofs.Filled.{About, about, filled_names, filled_none, fil
 use Rattle.sodac_cli.proofs.Numbered.{file_of_output, files_length, files_opened, output_file, output_names_length, role_at}
 
 -- what is delivered of the one program, its one list of values and its one list of arrays is of all
-module _ (texts_one : (most : ℕ) (bytes : List ℕ) (p q : PlainProgram) → Accepts most bytes p → Accepts most bytes q → p ≡ q)
+module _ (programs_one : (most : ℕ) (share : Bool) (bytes : List ℕ) (p q : PlainProgram) → SpeaksOf most share bytes p → SpeaksOf most share bytes q → p ≡ q)
     (values_one : (ps : List PlainParam) (bytes : List ℕ) (v w : List ℤ) → GivesParams ps bytes v → GivesParams ps bytes w → v ≡ w)
     (old new : Holding) (a : Asked) (p : PlainProgram) (program : HasProgram old a p) (values : List ℤ) (params : HasParams old a p values)
     (arrays : List (List ℤ)) (inputs : HasInputs old a p arrays) (texts : HoldTexts new (output_names a p) (output_texts a p values arrays)) where
   program_one : (q : PlainProgram) → HasProgram old a q → p ≡ q
   program_one q has =
-      let P : List ℕ → Type 0 = λ bytes. Accepts most_text bytes q in
-      texts_one most_text program.text p q program.accepted (subst P (same_Some has.text program.text (sym has.there ∙ program.there)) has.accepted)
+      let P : List ℕ → Type 0 = λ bytes. SpeaksOf most_text a.share bytes q in
+      programs_one most_text a.share program.text p q program.spoken (subst P (same_Some has.text program.text (sym has.there ∙ program.there)) has.spoken)
 
   params_one : (o : Option (List ℕ)) (v w : List ℤ) → HasParamsBy o old p v → HasParamsBy o old p w → v ≡ w
   params_one None v w x y = x.1 ∙ sym y.1
@@ -87,17 +87,17 @@ module _ (first : ℕ) (begun : Store) (a : Asked) (p : PlainProgram) (values : 
   are = are_prefixes (filled names texts count) (filled_prefixes names texts count (omega (arith, same_length)))
 
   -- all of them are
-  pub all_written : (texts_one : (most : ℕ) (bytes : List ℕ) (p q : PlainProgram) → Accepts most bytes p → Accepts most bytes q → p ≡ q)
+  pub all_written : (programs_one : (most : ℕ) (share : Bool) (bytes : List ℕ) (p q : PlainProgram) → SpeaksOf most share bytes p → SpeaksOf most share bytes q → p ≡ q)
       → (values_one : (ps : List PlainParam) (bytes : List ℕ) (v w : List ℤ) → GivesParams ps bytes v → GivesParams ps bytes w → v ≡ w)
       → count ≡ output_count p → Runs first begun (Some a) given now is.Ok
-  all_written texts_one values_one all =
+  all_written programs_one values_one all =
       let P : ℕ → Type 0 = λ n. Holds begun.bytes now.bytes (filled names texts n) in
       let whole : Holds begun.bytes now.bytes (filled names texts (length names)) =
       subst P (all ∙ sym (output_names_length a p w.judged.pass.count)) w.holds in
       all_due first begun a p values w.judged w.params given now (filled names texts count) (filled_names names texts count) w.holds are
       (text_count a + input_count p) w.asked.places w.asked.few w.asked.progress is.Ok refl (omega arith)
       (λ e. sym (files_opened a p w.judged.pass.count)) (done inputs w.inputs)
-      (λ e. delivers texts_one values_one begun.bytes now.bytes a p w.judged.program values w.params inputs w.inputs
+      (λ e. delivers programs_one values_one begun.bytes now.bytes a p w.judged.program values w.params inputs w.inputs
       (texts_held now.bytes names texts same_length whole.own) w.judged.arrays)
 
 -- memory is refused before any of them is

@@ -14,11 +14,11 @@ use Rattle.net_build.specs.Limits.{limit_passed}
 use Rattle.net_build.specs.Planned.{plan_of}
 use Rattle.soda_eval.specs.Runs.{cells_at}
 use Rattle.array_bytes.specs.declared.fault.CellFault.{CellFault}
-use Rattle.soda_parse.specs.Text.{Refuses}
 use Rattle.soda_parse.specs.declared.refusal.Refusal.{Refusal}
 use Rattle.soda_parse.specs.declared.refusal.Refusal.TheVariants.{Limit}
 use Rattle.job_files.specs.Contents.{Holding, IsThere}
 use Rattle.job_files.specs.Files.{JobFile}
+use Rattle.job_program.specs.Spoken.{RefusesProgram}
 use Rattle.command_words.specs.declared.mode.Mode.{Mode}
 use Rattle.command_words.specs.declared.mode.Mode.TheVariants.{Check, Plain, Plan, Compile, Sim, Selftest}
 use Rattle.command_words.specs.Orders.{Asked}
@@ -119,7 +119,7 @@ DueBehind h a p files status = (refusal : Option Status) × RefusalOf a p refusa
 
 -- what is due of a job that is built, and the files that are asked for until then
 pub data DueOf (h : Holding) (a : Asked) (files : List JobFile) (status : Status) : Type 0 where
-  refused : (text : List ℕ) (r : Refusal) → h (program_of a) ≡ Some text → Refuses most_text text r
+  refused : (text : List ℕ) (r : Refusal) → h (program_of a) ≡ Some text → RefusesProgram most_text a.share text r
       → files ≡ program_file a ∷ [] → status ≡ is.Program r → DueOf h a files status
   accepted : (p : PlainProgram) → HasProgram h a p → DueBehind h a p files status → DueOf h a files status
 

@@ -1,6 +1,6 @@
 -- What the words ask for: which of it is built, the files of the job, its params and arrays, and the bytes of its
 -- outputs.
-use Rattle.std.specs.Prelude.{◌≡◌, ◌≢◌, ℕ, zero, suc, ◌+◌, Bool, true, false, not, ◌&&◌, if◌then◌else◌, List, [], ◌∷◌, ◌++◌, map, length, take, drop, Option, Some, None, unwrap_or, ℤ, String, string_bytes}
+use Rattle.std.specs.Prelude.{◌≡◌, ◌≢◌, ℕ, zero, suc, ◌+◌, Bool, true, false, if◌then◌else◌, List, [], ◌∷◌, ◌++◌, map, length, take, drop, Option, Some, None, unwrap_or, ℤ, String, string_bytes}
 use Rattle.std.specs.Global.{Global}
 use Rattle.soda_io.specs.declared.role.FileRole.TheVariants.{Program, Modules, Params, Input, Output}
 use Rattle.soda_words.specs.IntType.{IntType}
@@ -8,13 +8,13 @@ use Rattle.soda_words.specs.Limits.{most_text}
 use Rattle.soda_ir.specs.Program.{PlainProgram, input_types}
 use Rattle.soda_ir.specs.Valid.{output_types}
 use Rattle.soda_eval.specs.Runs.{cells_at, defined_arrays}
-use Rattle.soda_parse.specs.Text.{Accepts}
 use Rattle.array_bytes.specs.Written.{array_bytes}
 use Rattle.array_bytes.specs.declared.fault.CellFault.{CellFault}
 use Rattle.array_bytes.specs.declared.form.Form.{Form}
 use Rattle.array_bytes.specs.declared.form.Form.TheVariants.{Raw, Text}
 use Rattle.param_lines.specs.Params.{GivesParams, RefusesLine}
 use Rattle.job_arrays.specs.Arrays.{IsFaulty, IsGood}
+use Rattle.job_program.specs.Spoken.{SpeaksOf}
 use Rattle.job_files.specs.Contents.{Holding}
 use Rattle.job_files.specs.Files.{JobFile}
 use Rattle.command_words.specs.declared.mode.Mode.{Mode}
@@ -50,9 +50,9 @@ makes Compile = module_file
 makes Sim = array_files
 makes Selftest = no_files
 
--- all that is asked for is built: sharing isn't so far
+-- all that is asked for is built
 abbrev pub is_built : Asked → Bool
-is_built a = is_built_mode a.mode && not a.share
+is_built a = is_built_mode a.mode
 
 -- the form of all arrays
 abbrev pub form_of : Asked → Form
@@ -124,11 +124,11 @@ text_count a = 1 + length (if_given a.params)
 abbrev pub files_of : Asked → PlainProgram → List JobFile
 files_of a p = texts_of a ++ (inputs_from 0 (input_names a p) ++ outputs_from 0 (output_names a p))
 
--- the program's file holds an accepted text, which stands for p
+-- the program's file holds a text, and p is the program spoken of: that of the text, shared where that is asked for
 pub record HasProgram (h : Holding) (a : Asked) (p : PlainProgram) : Type 0 where
   pub text : List ℕ
   pub there : h (program_of a) ≡ Some text
-  pub accepted : Accepts most_text text p
+  pub spoken : SpeaksOf most_text a.share text p
 
 -- these are the values of all params: the params file gives them, or there is no such file and no param
 abbrev pub HasParamsBy : Option (List ℕ) → Holding → PlainProgram → List ℤ → Type 0

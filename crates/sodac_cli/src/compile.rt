@@ -15,7 +15,6 @@ ghost use Rattle.sodac_cli.specs.Machine.Steps.{IsRead};
 ghost use Rattle.sodac_cli.specs.Work.{HasProgram, is_built, target_of};
 
 use crate::Status;
-use crate::judging::program_name;
 use crate::program::read_program;
 use command_words::Order;
 use compile_job::{BuildRefusal, compile_program};
@@ -149,7 +148,7 @@ pub(crate) fn compile<F: Files, S: Sink>(
     ensures out_faults { OutFaults (S.faults out.old) (S.faults out.new) result }
     ensures allowed { AllowsCompile result }
 {
-    match read_program(alloc, files, program_name(order)) {
+    match read_program(alloc, files, order) {
         Ok(program) => over(alloc, target_name(order), program, files, out),
         Err(status) => status,
     }

@@ -14,10 +14,10 @@ ghost use Rattle.sodac_cli.specs.Machine.Steps.{IsWriting, WritesOutput, WritesO
 
 use crate::Status;
 use job_arrays::{Layout, write_array};
+use job_program::one_program_is_spoken_of;
 use param_lines::params_are_one;
 use soda_io::{FileRole, Files, IoErr};
 use soda_ir::{Program, types_out};
-use soda_parse::texts_are_one;
 use soda_words::Ty;
 use sqlite_items::Items;
 use std::alloc::Global;
@@ -87,7 +87,7 @@ fn write_outputs<F: Files>(
     ensures faults { FileFaults (F.faults files.old) (F.faults files.new) result }
     ensures allowed { AllowsPlain result }
 {
-    texts_are_one();
+    one_program_is_spoken_of();
     params_are_one();
     for number in 0..ids.len() {
         let cells = arrays[number].as_slice();

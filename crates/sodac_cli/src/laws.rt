@@ -6,15 +6,15 @@ ghost use Rattle.sodac_cli.specs.Due.{Due};
 ghost use Rattle.job_status.specs.declared.status.Status.{Status as Ended};
 
 use flow_solve::least_plans_meet;
+use job_program::one_program_is_spoken_of;
 use param_lines::params_are_one;
-use soda_parse::texts_are_one;
 
 /// No two statuses are due, and none over two lists of files.
 pub fn only_one_is_due()
     ensures { (holding : Holding) (words : List (String Global)) (files others : List JobFile) (one other : Ended)
         → Due holding words files one → Due holding words others other → (one ≡ other) × (files ≡ others) }
 {
-    texts_are_one();
+    one_program_is_spoken_of();
     params_are_one();
     least_plans_meet()
 }

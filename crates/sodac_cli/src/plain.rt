@@ -18,7 +18,7 @@ use crate::Status;
 use crate::arrays::{create_outputs, open_inputs};
 use crate::delivering::deliver;
 use crate::gathering::gather;
-use crate::judging::{input_count, judge, program_name};
+use crate::judging::{input_count, judge};
 use crate::params::param_values;
 use crate::program::read_program;
 use crate::types::layout_of;
@@ -188,7 +188,7 @@ pub(crate) fn plain<F: Files>(alloc: Global, order: &Order<'_>, files: &mut F) -
     ensures faults { FileFaults (F.faults files.old) (F.faults files.new) result }
     ensures allowed { AllowsPlain result }
 {
-    match read_program(alloc, files, program_name(order)) {
+    match read_program(alloc, files, order) {
         Ok(program) => {
             let status = over(alloc, order, &program, files);
             drop(program);

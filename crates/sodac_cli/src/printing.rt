@@ -11,7 +11,6 @@ ghost use Rattle.sodac_cli.specs.Printed.{IsPrinted, Prints};
 ghost use Rattle.sodac_cli.specs.Work.{HasProgram, is_built};
 
 use crate::Status;
-use crate::judging::program_name;
 use crate::program::read_program;
 use command_words::{Mode, Order};
 use plan_job::plan_text;
@@ -75,7 +74,7 @@ pub(crate) fn print_job<F: Files, S: Sink>(
     ensures out_faults { OutFaults (S.faults out.old) (S.faults out.new) result }
     ensures allowed { AllowsPrinting result }
 {
-    match read_program(alloc, files, program_name(order)) {
+    match read_program(alloc, files, order) {
         Ok(program) => {
             let status = print_lines(alloc, order.mode, &program, out);
             drop(program);

@@ -22,11 +22,10 @@ use std::alloc::Global;
 fn is_built(order: &Order<'_>) -> bool
     ensures { result ≡ is_built (asked order.now) }
 {
-    let mode = match order.mode {
+    match order.mode {
         Mode::Check | Mode::Plain | Mode::Plan | Mode::Compile => true,
         Mode::Sim | Mode::Selftest => false,
-    };
-    mode && !order.share
+    }
 }
 
 // Does what is asked for.
@@ -80,11 +79,12 @@ fn job<F: Files, S: Sink>(alloc: Global, words: &[String], files: &mut F, out: &
 /// Does what the words say over the files, prints to `out` what the mode prints, and reports to `err` what it doesn't
 /// do. The first word is the program's own name.
 ///
-/// The status is that of the first refusal or fault, in this order: the words; a mode or a flag that isn't built yet;
-/// the program's file, and its text. In `check` the canonical text is put to `out` then, and in `plan` the least plan
-/// of the program with a certificate. In `plain` there follow the number of names and their equality, the limits of the
-/// arrays, the params file and its lines, opening the inputs, creating the outputs, reading each input in order, and
-/// writing each output. Want of memory may come in place of any.
+/// The status is that of the first refusal or fault, in this order: the words; a mode that isn't built yet; the
+/// program's file, its text, and where sharing is asked for, the limits of sharing. All that follows is of the program
+/// that is spoken of: that of the text, or the shared one. In `check` the canonical text is put to `out` then, and in
+/// `plan` the least plan of the program with a certificate. In `plain` there follow the number of names and their
+/// equality, the limits of the arrays, the params file and its lines, opening the inputs, creating the outputs, reading
+/// each input in order, and writing each output. Want of memory may come in place of any.
 pub fn execute<F: Files, S: Sink, E: Sink>(
     alloc: Global,
     words: &[String],

@@ -1,4 +1,4 @@
-use Rattle.std.proofs.Common.{◌≢◌, ℕ, List, false, [], ◌∷◌, refl, ap, arith}
+use Rattle.std.proofs.Common.{◌≢◌, ℕ, List, false, [], ◌∷◌, ap, arith}
 use Rattle.std.proofs.lemmas.List.Elements.{All-nil}
 use Rattle.job_files.proofs.CallerLemmas.{begin}
 use Rattle.sodac_cli.specs.Work.{modules_file, program_file, target_of}

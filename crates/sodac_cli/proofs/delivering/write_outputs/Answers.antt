@@ -78,4 +78,4 @@ returns-clause-runs g c = λ told first begun a p values inputs w.
     let many = as_many c.args.layout.cells c.args.types.now c.args.arrays.now c.requires.arrays in
     all_written first begun a p values inputs c.loop-number.number _ _ written
     (ap (λ (xs : List (List ℤ)). length xs) (sym w.arrays_are) ∙ many ∙ sym c.requires.as_many ∙ ids)
-    c.texts_are_one.ensures.program c.params_are_one.ensures.one_list (omega (arith, ids))
+    c.one_program_is_spoken_of.ensures.program c.params_are_one.ensures.one_list (omega (arith, ids))

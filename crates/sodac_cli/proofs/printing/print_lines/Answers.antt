@@ -1,4 +1,4 @@
-use Rattle.std.proofs.Common.{◌≤◌, List, ℕ, length, sym, ap, subst, ◌∙◌, arith, inr}
+use Rattle.std.proofs.Common.{List, ℕ, sym, ap, subst, ◌∙◌, arith, inr}
 use Rattle.soda_ir.specs.Program.{plain}
 use Rattle.sodac_cli.specs.Printed.{IsPrinted, prints}
 use Rattle.sodac_cli.proofs.LinesPut.{print_done, print_fault, print_memory, prints_all, prints_some}

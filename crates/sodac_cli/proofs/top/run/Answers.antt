@@ -1,5 +1,4 @@
 use Rattle.command_words.specs.Orders.{asked}
-use Rattle.sodac_cli.proofs.LinesPut.{check_prints, plan_prints}
 use Rattle.sodac_cli.proofs.Unasked.{unbuilt_runs}
 use Rattle.sodac_cli.proofs.top.run.Goals as goal
 

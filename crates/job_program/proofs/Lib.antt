@@ -1,0 +1,2 @@
+mod OneProgram
+mod Shared
