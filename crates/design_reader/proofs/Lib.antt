@@ -6,3 +6,4 @@ pub mod First
 pub mod Ending
 pub mod Made
 pub mod Unrefused
+pub mod OneLine

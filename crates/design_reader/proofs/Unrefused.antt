@@ -36,7 +36,7 @@ use Rattle.time_stages.specs.Staged.{staged_reads, staged_tensors, staged_widths
 use Rattle.time_stages.specs.declared.staging.StagedTensor.{StagedTensor}
 
 -- a text that goes on with a line
-goes_on : (w text after : List ℕ) → text ≡ (w ++ codes "\n") ++ after → GoesOn (w ∷ []) text
+pub goes_on : (w text after : List ℕ) → text ≡ (w ++ codes "\n") ++ after → GoesOn (w ∷ []) text
 goes_on w text after e = (after, e ∙ ap (λ (z : List ℕ). z ++ after) (sym (append-nil (w ++ codes "\n"))))
 
 -- The first of numbered lines are told one by one, and what follows them.
@@ -56,7 +56,7 @@ told_in_part R f g k (a ∷ xs) ys x y each e =
     )
 
 -- the same of the first of a list
-told_first : {A : Type 0} (R : ℕ → Type 0) (f g : ℕ → A → List ℕ) (xs : List A) (i : ℕ) (x y : List ℕ) → i ≤ length xs
+pub told_first : {A : Type 0} (R : ℕ → Type 0) (f g : ℕ → A → List ℕ) (xs : List A) (i : ℕ) (x y : List ℕ) → i ≤ length xs
     → ((n : ℕ) (a : A) (u w : List ℕ) → n < i → (f n a ++ codes "\n") ++ u ≡ (g n a ++ codes "\n") ++ w → R n × (u ≡ w))
     → ended (numbered f 0 (take i xs)) ++ x ≡ ended (numbered g 0 xs) ++ y
     → ((n : ℕ) → n < i → R n) × (x ≡ ended (numbered g i (drop i xs)) ++ y)
@@ -81,7 +81,7 @@ all_told : {A : Type 0} (g : ℕ → A → List ℕ) (xs : List A) (i : ℕ) (x 
 all_told g xs i x y all e = e ∙ ap (λ zs. ended (numbered g i zs) ++ y) (drop_all i xs (omega arith))
 
 -- a line of a staged tensor tells its storage too
-tensor_told : (p : PlainProgram) (n : ℕ) (s : StagedTensor) (a b m t : ℕ) (u w : List ℕ) → a < 2 ^ 64 → b < 2 ^ 64 → m < 2 ^ 64 → t < 2 ^ 64
+pub tensor_told : (p : PlainProgram) (n : ℕ) (s : StagedTensor) (a b m t : ℕ) (u w : List ℕ) → a < 2 ^ 64 → b < 2 ^ 64 → m < 2 ^ 64 → t < 2 ^ 64
     → (tensor_line p n s a b ++ codes "\n") ++ u ≡ (tensor_line p n s m t ++ codes "\n") ++ w → ((a ≡ m) × (b ≡ t)) × (u ≡ w)
 tensor_told p n s a b m t u w ha hb hm ht e =
     let first = tensor_apart p n s a b m t u w ha hm e in
@@ -157,7 +157,7 @@ module _ (d : PlainDesign) (h : IsDesign d) where
       (small hs t.small_holds n) (small ns t.small_needs n) (small d.hold h.small_holds n) (small d.need h.small_needs n) f in ((one.0, one.1), one.2)) e
 
   -- all staged tensors are told
-  all_tensors : (text ds ss rest tail : List ℕ) → text ≡ ended (tensor_lines d.program d.delays) ++ tail → HasTensors d.program text ds ss rest
+  pub all_tensors : (text ds ss rest tail : List ℕ) → text ≡ ended (tensor_lines d.program d.delays) ++ tail → HasTensors d.program text ds ss rest
       → (ds ≡ d.delays) × AreStorages (staged_reads d.program) d.delays ss × (rest ≡ tail)
   all_tensors text ds ss rest tail is t =
       let m = tensors_match ds ss rest tail t.told (sym t.text_is ∙ is) in (
@@ -177,7 +177,7 @@ module _ (d : PlainDesign) (h : IsDesign d) where
       )
 
   -- no line of a staged tensor is refused
-  no_tensor_stop : (text tail : List ℕ) (before line : ℕ) → text ≡ ended (tensor_lines d.program d.delays) ++ tail → IsTensorStop d.program text before line → ⊥
+  pub no_tensor_stop : (text tail : List ℕ) (before line : ℕ) → text ≡ ended (tensor_lines d.program d.delays) ++ tail → IsTensorStop d.program text before line → ⊥
   no_tensor_stop text tail before line is s =
       let m = tensors_match s.delays s.storages s.rest tail s.told (sym s.text_is ∙ is) in
       let k = length s.delays in
@@ -186,7 +186,7 @@ module _ (d : PlainDesign) (h : IsDesign d) where
       (next_told tensor_of (staged_tensors d.program) k s.next s.rest tail s.next_is m.1)
 
   -- nor that of a read
-  no_read_stop : (text tail : List ℕ) (before line : ℕ) → text ≡ ended (read_lines d.program d.delays d.hold d.need) ++ tail
+  pub no_read_stop : (text tail : List ℕ) (before line : ℕ) → text ≡ ended (read_lines d.program d.delays d.hold d.need) ++ tail
       → IsReadStop (staged_reads d.program) d.delays text before line → ⊥
   no_read_stop text tail before line is s =
       let m = reads_match s.hold s.need s.rest tail s.told (sym s.text_is ∙ is) in
@@ -197,44 +197,54 @@ module _ (d : PlainDesign) (h : IsDesign d) where
       (next_told read_of rs k s.next s.rest tail s.next_is m.1)
 
   -- nor that of the total
-  no_total_stop : (v : Version) (ds ss hs ns text rest : List ℕ) → ds ≡ d.delays → AreStorages (staged_reads d.program) d.delays ss → text ≡ ended (read_lines d.program d.delays d.hold d.need) ++ from_total v d
+  pub no_total_stop : (ds ss hs ns text rest after : List ℕ) → ds ≡ d.delays → AreStorages (staged_reads d.program) d.delays ss
+      → text ≡ ended (read_lines d.program d.delays d.hold d.need)
+      ++ ((total_line (total_storage (staged_widths d.program) (staged_reads d.program) d.delays) ++ codes "\n") ++ after)
       → HasReads d.program ds text hs ns rest → (HasTotal d.program ds ss hs ns rest → ⊥) → ⊥
-  no_total_stop v ds ss hs ns text rest same ages is t none =
-      let reads = all_reads text hs ns rest (from_total v d) is (subst (λ a. HasReads d.program a text hs ns rest) same t) in
+  no_total_stop ds ss hs ns text rest after same ages is t none =
       let total = total_line (total_storage (staged_widths d.program) (staged_reads d.program) d.delays) in
+      let reads = all_reads text hs ns rest ((total ++ codes "\n") ++ after) is (subst (λ a. HasReads d.program a text hs ns rest) same t) in
       let all : HasTotal d.program d.delays ss d.hold d.need rest = record {
         ages = ages;
         fits = h.fits;
         within = h.within;
-        line = goes_on total rest (ended (lines_behind v d)) reads.2;
+        line = goes_on total rest after reads.2;
       } in
       none (subst (λ a. HasTotal d.program a ss hs ns rest) (sym same) (subst (λ a. HasTotal d.program d.delays ss a ns rest) (sym reads.0)
       (subst (λ a. HasTotal d.program d.delays ss d.hold a rest) (sym reads.1) all)))
 
-  -- behind the lines of a plan come those of the network
-  plan_rest : (v : Version) (ds hs ns text rest : List ℕ) → IsDesign (design_of d.program ds hs ns)
-      → text ≡ ended (tensor_lines d.program d.delays) ++ (ended (read_lines d.program d.delays d.hold d.need) ++ from_total v d)
-      → text ≡ ended (plan_lines d.program ds hs ns) ++ rest → ended (lines_behind v (design_of d.program ds hs ns)) ≡ rest
-  plan_rest v ds hs ns text rest design is told =
-      let e = design_of d.program ds hs ns in
-      let total = total_line (total_storage (staged_widths d.program) (staged_reads d.program) ds) in
-      let a = tensor_lines d.program ds in
-      let b = read_lines d.program ds hs ns in
-      let flat : ended (a ++ (b ++ total ∷ [])) ++ rest ≡ ended a ++ (ended b ++ ((total ++ codes "\n") ++ rest)) =
-      ap (λ (z : List ℕ). z ++ rest) (ended-append a (b ++ total ∷ []) ∙ ap (λ (z : List ℕ). ended a ++ z) (ended-append b (total ∷ [])
+  -- a text that goes on with the lines of the plan of the design, part by part
+  pub plan_flat : (text rest : List ℕ) → text ≡ ended (plan_lines d.program d.delays d.hold d.need) ++ rest
+      → text ≡ ended (tensor_lines d.program d.delays) ++ (ended (read_lines d.program d.delays d.hold d.need)
+      ++ ((total_line (total_storage (staged_widths d.program) (staged_reads d.program) d.delays) ++ codes "\n") ++ rest))
+  plan_flat text rest is =
+      let total = total_line (total_storage (staged_widths d.program) (staged_reads d.program) d.delays) in
+      let a = tensor_lines d.program d.delays in
+      let b = read_lines d.program d.delays d.hold d.need in
+      is ∙ ap (λ (z : List ℕ). z ++ rest) (ended-append a (b ++ total ∷ []) ∙ ap (λ (z : List ℕ). ended a ++ z) (ended-append b (total ∷ [])
       ∙ ap (λ (z : List ℕ). ended b ++ z) (append-nil (total ++ codes "\n"))))
-      ∙ append_assoc (ended a) (ended b ++ (total ++ codes "\n")) rest ∙ ap (λ (z : List ℕ). ended a ++ z) (append_assoc (ended b) (total ++ codes "\n") rest) in
-      let both = same_plan d e (from_total v d) ((total ++ codes "\n") ++ rest) refl h design (sym is ∙ told ∙ flat) in
-      append_cancel_left (total ++ codes "\n") (ended (lines_behind v e)) rest (sym (ap (from_total v) both.0) ∙ both.1)
+      ∙ append_assoc (ended a) (ended b ++ (total ++ codes "\n")) rest ∙ ap (λ (z : List ℕ). ended a ++ z) (append_assoc (ended b) (total ++ codes "\n") rest)
 
--- a text that is some lines stops at none of them
-no_stop : (lines : List (List ℕ)) (text : List ℕ) (before line : ℕ) → text ≡ ended lines → IsStop lines text before line → ⊥
-no_stop lines text before line is s =
-    let all : ended s.kept ++ s.rest ≡ ended s.kept ++ ended (s.next ∷ s.after) =
-    sym s.text_is ∙ is ∙ ap ended s.lines_are ∙ ended-append s.kept (s.next ∷ s.after) in
-    s.stops (goes_on s.next s.rest (ended s.after) (append_cancel_left (ended s.kept) s.rest (ended (s.next ∷ s.after)) all))
+-- behind the lines of a plan come those of the network
+plan_rest : (d : PlainDesign) → IsDesign d → (v : Version) (ds hs ns text rest : List ℕ) → IsDesign (design_of d.program ds hs ns)
+    → text ≡ ended (tensor_lines d.program d.delays) ++ (ended (read_lines d.program d.delays d.hold d.need) ++ from_total v d)
+    → text ≡ ended (plan_lines d.program ds hs ns) ++ rest → ended (lines_behind v (design_of d.program ds hs ns)) ≡ rest
+plan_rest d h v ds hs ns text rest design is told =
+    let e = design_of d.program ds hs ns in
+    let total = total_line (total_storage (staged_widths d.program) (staged_reads d.program) ds) in
+    let both = same_plan d e (from_total v d) ((total ++ codes "\n") ++ rest) refl h design (sym is ∙ plan_flat e design text rest told) in
+    append_cancel_left (total ++ codes "\n") (ended (lines_behind v e)) rest (sym (ap (from_total v) both.0) ∙ both.1)
 
--- nothing follows it
+-- a text that goes on with all lines stops at none of them
+pub no_stop_within : (lines : List (List ℕ)) (text rest : List ℕ) (before line : ℕ) → text ≡ ended lines ++ rest → IsStop lines text before line → ⊥
+no_stop_within lines text rest before line is s =
+    let all : ended s.kept ++ s.rest ≡ ended s.kept ++ ((s.next ++ codes "\n") ++ (ended s.after ++ rest)) =
+    sym s.text_is ∙ is ∙ ap (λ ws. ended ws ++ rest) s.lines_are ∙ ap (λ (z : List ℕ). z ++ rest) (ended-append s.kept (s.next ∷ s.after))
+    ∙ append_assoc (ended s.kept) (ended (s.next ∷ s.after)) rest
+    ∙ ap (λ (z : List ℕ). ended s.kept ++ z) (append_assoc (s.next ++ codes "\n") (ended s.after) rest) in
+    s.stops (goes_on s.next s.rest (ended s.after ++ rest) (append_cancel_left (ended s.kept) s.rest ((s.next ++ codes "\n") ++ (ended s.after ++ rest)) all))
+
+-- nothing follows a text
 nothing_past : (text rest : List ℕ) (byte : ℕ) → text ≡ text ++ byte ∷ rest → ⊥
 nothing_past text rest byte e = absurd (omega (arith, ap length e, length-append text (byte ∷ rest)))
 
@@ -250,10 +260,11 @@ unrefused_behind v d text line h is (at_read ds ss rest t s) =
     (subst (λ a. IsReadStop (staged_reads d.program) a rest (lines_before d.program + length ds) line) all.0 s)
 unrefused_behind v d text line h is (at_total ds ss hs ns middle rest t r none) =
     let all = all_tensors d h text ds ss middle (ended (read_lines d.program d.delays d.hold d.need) ++ from_total v d) is t in
-    no_total_stop d h v ds ss hs ns middle rest all.0 all.1 all.2 r none
+    no_total_stop d h ds ss hs ns middle rest (ended (lines_behind v d)) all.0 all.1 all.2 r none
 unrefused_behind v d text line h is (at_network ds hs ns rest design told s) =
     let e = design_of d.program ds hs ns in
-    no_stop (lines_behind v e) rest _ line (sym (plan_rest d h v ds hs ns text rest design is told)) s
+    no_stop_within (lines_behind v e) rest [] _ line
+    (sym (plan_rest d h v ds hs ns text rest design is told) ∙ sym (append-nil (ended (lines_behind v e)))) s
 unrefused_behind v d text line h is (past_end ds hs ns byte rest design told) =
     let e = design_of d.program ds hs ns in
     let a = plan_lines d.program ds hs ns in

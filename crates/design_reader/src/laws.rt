@@ -9,3 +9,8 @@ pub fn texts_of_designs_are_not_refused()
     ensures { (v : Version) (bytes : List ℕ) (d : PlainDesign) (line : ℕ) → length bytes ≤ most_design_text
         → IsDesignText v bytes d → IsRefusedLine v bytes line → ⊥ }
 {}
+
+/// A text has one refused line at most.
+pub fn refused_lines_are_one()
+    ensures { (v : Version) (bytes : List ℕ) (m n : ℕ) → IsRefusedLine v bytes m → IsRefusedLine v bytes n → m ≡ n }
+{}
