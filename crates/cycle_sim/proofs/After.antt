@@ -46,6 +46,7 @@ sink_made c m v s r same number is = record {
   delay = ap (λ (x : of.Sink). x.delay) same ∙ is.delay;
   cells = ap (λ (x : of.Sink). x.cells) same ∙ is.cells;
   form = ap (λ (x : of.Sink). x.output.form) same ∙ is.form;
+  run = ap (λ (x : of.Sink). x.output.run) same ∙ is.run;
   ty = ap (λ (x : of.Sink). x.output.ty) same ∙ is.ty;
 }
 

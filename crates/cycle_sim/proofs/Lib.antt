@@ -1,3 +1,5 @@
+pub mod Apart
+pub mod OneModule
 pub mod Lanes
 pub mod Sent
 pub mod Ranges
@@ -7,4 +9,6 @@ pub mod Keeping
 pub mod After
 pub mod Passing
 pub mod Stopping
+pub mod Types
 pub mod Run
+pub mod Beginning

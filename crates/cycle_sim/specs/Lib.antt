@@ -6,3 +6,4 @@ pub mod Onward
 pub mod Paths
 pub mod machine
 pub mod Running
+pub mod Fresh

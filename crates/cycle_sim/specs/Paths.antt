@@ -11,4 +11,5 @@ settings d = record {
   rows = d.rows;
   params = d.params.items;
   form = d.form;
+  run = d.run;
 }

@@ -1,5 +1,5 @@
 -- What a run is about, and the arrays that its inputs may hold.
-use Rattle.std.specs.Prelude.{◌≡◌, ℕ, ◌≤◌, List, [], ℤ, pos, slice_index, slice_index_or}
+use Rattle.std.specs.Prelude.{◌≡◌, ℕ, ◌<◌, ◌≤◌, List, [], ℤ, pos, slice_index, slice_index_or}
 use Rattle.array_bytes.specs.declared.form.Form.{Form}
 use Rattle.delay_net.specs.Windows.{HasShortDelays}
 use Rattle.net_ir.specs.Nets.{Net}
@@ -11,14 +11,15 @@ use Rattle.soda_ir.specs.Program.{PlainProgram, input_types}
 use Rattle.soda_eval.specs.Runs.{HasArrays, HasValues, cells_at, place_types}
 use Rattle.staged_cells.specs.Streams.{HasStreams, stage_cell, stream}
 
--- a program, the delays of its staged tensors, how many rows an array has, the params' values, and
--- the form of the files
+-- a program, the delays of its staged tensors, how many rows an array has, the params' values, the form of the files, and
+-- how many cells a line of a text has
 pub record Settings : Type 0 where
   pub program : PlainProgram
   pub delays : List ℕ
   pub rows : ℕ
   pub params : List ℤ
   pub form : Form
+  pub run : ℕ
 
 -- the plan and the network
 abbrev pub plan_in : Settings → Plan
@@ -38,6 +39,7 @@ pub record IsSettings (c : Settings) : Type 0 where
   pub lanes : c.program.unroll ≤ most_unroll
   pub few : array_cells c ≤ most_cells
   pub values : HasValues (place_types c.program.params) c.params
+  pub some : 0 < c.run
 
 -- arrays in range for the inputs
 abbrev pub AreInputs : Settings → List (List ℤ) → Type 0

@@ -78,6 +78,7 @@ pub record IsSinkOf (c : Settings) (m v : ℕ) (s : SinkStation) : Type 0 where
   pub delay : s.writes.delay ≡ slice_index c.delays v
   pub cells : s.writes.cells ≡ array_cells c
   pub form : (output s.writes.writer).form ≡ c.form
+  pub run : (output s.writes.writer).run ≡ c.run
   pub ty : (output s.writes.writer).ty ≡ type_at c.program v
 
 -- A sink that has fired so many times has put the cells of these firings into its file: of each of its output's arrays

@@ -5,12 +5,16 @@ ghost use Rattle.net_ir.specs.declared.network.Module.TheVariants.{Sink};
 ghost use Rattle.net_cycles.specs.Streams.{port_values, sent_values};
 ghost use Rattle.soda_ir.specs.Points.{listed};
 ghost use Rattle.staged_cells.specs.Cells.{type_at};
+ghost use Rattle.staged_cells.specs.Sends.{output_of};
 ghost use Rattle.staged_cells.specs.Streams.{cell_number, module_at, stage_cell};
 ghost use Rattle.cycle_sim.specs.Settings.{AreInputs, IsSettings, Settings, net_in, plan_in, streams_over};
 ghost use Rattle.cycle_sim.specs.Sends.{SendsBy, exit_lanes};
 
+use net_build::programs_have_plans;
 use net_ir::queues_stand_in_order;
+use net_shape::modules_are_numbered;
 use staged_cells::{modules_send_streams, sinks_take_arrays, stage_cells_are_in_range};
+use time_stages::{placing_is_good, staged_tensors_keep_margins};
 
 /// A module that sends what `SendsBy` says, where its ports hold the streams of its queues, sends the items of the
 /// streams of the queues from it.
@@ -42,4 +46,18 @@ pub fn cells_of_a_run_are_in_range()
         → InRange (type_at c.program v) (stage_cell c.program c.rows c.params inputs v z) }
 {
     stage_cells_are_in_range()
+}
+
+/// No two modules of a run are one, and no two sinks are of outputs of one number.
+pub fn modules_of_a_run_are_apart()
+    ensures modules { (c : Settings) (m n : ℕ) → IsSettings c → m < length (net_in c).modules
+        → n < length (net_in c).modules → module_at (net_in c) m ≡ module_at (net_in c) n → m ≡ n }
+    ensures sinks { (c : Settings) (m n v w : ℕ) → IsSettings c → m < length (net_in c).modules
+        → n < length (net_in c).modules → module_at (net_in c) m ≡ Sink v → module_at (net_in c) n ≡ Sink w
+        → output_of c.program v ≡ output_of c.program w → m ≡ n }
+{
+    programs_have_plans();
+    modules_are_numbered();
+    placing_is_good();
+    staged_tensors_keep_margins();
 }

@@ -2,12 +2,16 @@
 #![tactic(auto)]
 
 mod laws;
+mod making;
 mod path;
 mod simulation;
 mod stations;
 mod stop;
 
-pub use laws::{cells_of_a_run_are_in_range, modules_of_a_run_send, sinks_of_a_run_take};
+pub use laws::{
+    cells_of_a_run_are_in_range, modules_of_a_run_are_apart, modules_of_a_run_send,
+    sinks_of_a_run_take,
+};
 pub use path::FilePath;
 pub use simulation::Simulation;
 pub use staged_cells::Unit;

@@ -19,12 +19,13 @@ use soda_ir::Program;
 /// from theirs, and those of the outputs written to theirs, firing by firing.
 #[derive(Drop)]
 pub struct FilePath<U> {
-    program: Program,
-    delays: Vec<u64>,
-    rows: u64,
-    params: Vec<i128>,
-    form: Form,
-    stations: Vec<Station<U>>,
+    pub(crate) program: Program,
+    pub(crate) delays: Vec<u64>,
+    pub(crate) rows: u64,
+    pub(crate) params: Vec<i128>,
+    pub(crate) form: Form,
+    pub(crate) run: u64,
+    pub(crate) stations: Vec<Station<U>>,
 }
 
 impl<F: Files, U: Unit> Datapath<F> for FilePath<U> {
