@@ -1,1 +1,2 @@
+mod modules;
 mod rows;
