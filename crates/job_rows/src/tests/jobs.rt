@@ -316,7 +316,7 @@ const ROWS: &[Row] = &[
         Some(SUMS),
         b"orrocrrw",
     ),
-    // What isn't built asks for no file: a mode, and a flag in a mode that is built.
+    // What isn't built asks for no file.
     (
         "sodac sim p 5 i o",
         &[],
@@ -327,7 +327,7 @@ const ROWS: &[Row] = &[
         b"",
     ),
     (
-        "sodac --share plain --raw p 5 i o --params p",
+        "sodac --share selftest 7",
         &[],
         ALL,
         Status::NotYetBuilt,
