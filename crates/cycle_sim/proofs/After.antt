@@ -1,20 +1,15 @@
 -- What a module is behind its firing.
-use Rattle.std.proofs.Common.{◌≡◌, ℕ, ◌+◌, ◌-◌, ◌*◌, ◌<◌, ◌≤◌, ◌++◌, All, List, map, length, take, drop, slice_index, slice_index_or, Some, None, refl, sym, ap, subst, ◌∙◌, arith, ℤ, pos, ◌+ℤ◌, ◌-ℤ◌}
+use Rattle.std.proofs.Common.{◌≡◌, ℕ, ◌+◌, ◌*◌, ◌<◌, ◌++◌, List, map, take, slice_index, Some, refl, sym, ap, subst, ◌∙◌, arith, ℤ, pos, ◌+ℤ◌, ◌-ℤ◌}
 use Rattle.std.proofs.lemmas.Int.{ints}
 use Rattle.soda_io.specs.Store.{Store}
-use Rattle.bursts.specs.Readers.{kind}
 use Rattle.bursts.specs.Writers.{HasPut, output}
-use Rattle.int_types.specs.Ranges.{InRange, wrapped}
-use Rattle.net_ir.specs.Nets.{entrances}
-use Rattle.net_ir.specs.declared.network.Module.{Module}
-use Rattle.net_ir.specs.declared.network.Module.TheVariants.{Source, Forward, Compute, Sink}
-use Rattle.staged_cells.specs.Cells.{type_at}
-use Rattle.staged_cells.specs.Sends.{computed}
-use Rattle.staged_cells.specs.Streams.{cell_number, module_at}
+use Rattle.int_types.specs.Ranges.{wrapped}
+use Rattle.net_ir.specs.declared.network.Module.TheVariants.{Sink}
+use Rattle.staged_cells.specs.Streams.{module_at}
 use Rattle.file_modules.specs.Firings.{cells_before}
 use Rattle.file_modules.specs.Modules.{handed_by, sink, source}
 use Rattle.file_modules.specs.Modules as of
-use Rattle.cycle_sim.specs.Settings.{AreInputs, Settings, array_cells, array_over, net_in, plan_in}
+use Rattle.cycle_sim.specs.Settings.{AreInputs, Settings, array_cells, array_over, net_in}
 use Rattle.cycle_sim.specs.Stations.{AreBegun, IsSinkOf, IsSourceOf, SinkAt, SourceAt, StationAt, UnitAt, Units, id_of, station_at, write_id}
 use Rattle.cycle_sim.specs.machine.Firings.{Fired, GoesOn, Moves, OfCompute, OfSink, OfSource}
 use Rattle.cycle_sim.specs.declared.stations.SourceStation.{SourceStation}

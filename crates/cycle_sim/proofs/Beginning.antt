@@ -1,19 +1,17 @@
 -- The modules of a run stand ready before its first cycle, where its files are fresh.
-use Rattle.std.proofs.Common.{◌≡◌, ◌≢◌, ℕ, ◌+◌, ◌*◌, ◌<◌, ◌≤◌, true, false, List, [], length, take, get_or, slice_index, None, Some, Option, refl, sym, ap, subst, ◌∙◌, arith, ⊎_elim, ℤ}
+use Rattle.std.proofs.Common.{◌≡◌, ◌≢◌, ℕ, ◌<◌, ◌≤◌, List, [], length, take, slice_index, Some, sym, ap, subst, ◌∙◌, ⊎_elim}
 use Rattle.std.proofs.lemmas.Bool.{cases_lt}
 use Rattle.std.proofs.lemmas.Option.{none-some, same_Some}
 use Rattle.std.proofs.lemmas.List.{get_or_past}
-use Rattle.soda_io.specs.Store.{Store, content}
-use Rattle.bursts.specs.Readers.{StandsAt, given_by, kind}
+use Rattle.soda_io.specs.Store.{Store}
+use Rattle.bursts.specs.Readers.{kind}
 use Rattle.bursts.specs.Writers.{HasPut}
 use Rattle.bursts.proofs.CallerLemmas.{stands_first}
-use Rattle.file_modules.specs.Firings.{cells_before}
-use Rattle.file_modules.specs.Modules.{read_before, source}
 use Rattle.file_modules.proofs.CallerLemmas.{begins_with_none}
 use Rattle.net_ir.specs.declared.network.Module.{Module}
-use Rattle.net_ir.specs.declared.network.Module.TheVariants.{Source, Forward, Compute, Sink}
+use Rattle.net_ir.specs.declared.network.Module.TheVariants.{Source, Sink}
 use Rattle.staged_cells.specs.Sends.{output_of}
-use Rattle.staged_cells.specs.Streams.{module_at, tensor_of}
+use Rattle.staged_cells.specs.Streams.{module_at}
 use Rattle.cycle_sim.specs.Settings.{IsSettings, Settings, array_cells, array_over, net_in}
 use Rattle.cycle_sim.specs.Stations.{AreApart, AreReady, SinkAt, SourceAt, StationAt, Units, id_of, read_id, station_at, write_id, written_by}
 use Rattle.cycle_sim.specs.Fresh.{AreFresh, IsNew, IsNewSink, IsNewSource}

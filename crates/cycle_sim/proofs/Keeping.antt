@@ -1,14 +1,13 @@
 -- Behind a firing of one module the others stand as they stood.
-use Rattle.std.proofs.Common.{◌≡◌, ◌≢◌, ℕ, ◌+◌, ◌<◌, false, true, List, length, take, get_or, slice_index, slice_set, Some, None, Option, refl, sym, ap, subst, ◌∙◌, arith, ℤ, ⊎_elim, get_or-set_same, get_or-set_other, length-set}
+use Rattle.std.proofs.Common.{◌≡◌, ◌≢◌, ℕ, ◌+◌, ◌<◌, List, length, slice_index, Some, refl, sym, ap, subst, ◌∙◌, arith, ⊎_elim, get_or-set_same, get_or-set_other, length-set}
 use Rattle.std.proofs.lemmas.Bool.Decides.{eqb_tells}
 use Rattle.std.proofs.lemmas.Option.{none-some}
 use Rattle.soda_io.specs.Store.{Store, content}
 use Rattle.bursts.specs.Readers.{StandsAt, kind}
-use Rattle.bursts.specs.Writers.{HasPut}
 use Rattle.net_cycles.specs.Between.{fired_once}
 use Rattle.net_ir.specs.declared.network.Module.{Module}
 use Rattle.staged_cells.specs.Streams.{module_at}
-use Rattle.file_modules.specs.Modules.{Sink, Source, sink, source}
+use Rattle.file_modules.specs.Modules.{Sink, Source}
 use Rattle.cycle_sim.specs.Settings.{Settings, net_in}
 use Rattle.cycle_sim.specs.Stations.{AreApart, AreReady, SinkAt, SourceAt, StationAt, Units, id_of, read_id, station_at, write_id, written_by}
 use Rattle.cycle_sim.specs.machine.Firings.{GoesOn, Moves, Spares}

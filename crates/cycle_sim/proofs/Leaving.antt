@@ -1,5 +1,5 @@
 -- What a firing leaves.
-use Rattle.std.proofs.Common.{◌≡◌, ℕ, ◌<◌, List, ◌++◌, Option, None, Some, Result, Ok, Err, subst, get_or, slice_index_or, refl, ◌∙◌, ap, arith, ℤ, pos, length}
+use Rattle.std.proofs.Common.{◌≡◌, ℕ, ◌<◌, List, ◌++◌, Option, None, Some, Ok, Err, subst, get_or, slice_index_or, refl, ◌∙◌, ap, arith, ℤ, pos}
 use Rattle.std.proofs.lemmas.List.{get_or-map}
 use Rattle.std.proofs.lemmas.List.FromFn.{get_or-range_with_len, length-range_with_len}
 use Rattle.std.specs.List.{range_with_len}

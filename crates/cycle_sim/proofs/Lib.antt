@@ -12,3 +12,5 @@ pub mod Stopping
 pub mod Types
 pub mod Run
 pub mod Beginning
+pub mod EndsOfRuns
+pub mod NewStations

@@ -1,5 +1,5 @@
 -- A firing of one module leaves the others as they were, and no inputs go on from what was read that didn't before.
-use Rattle.std.proofs.Common.{◌≡◌, ◌≢◌, ℕ, ◌+◌, ◌-◌, ◌*◌, ◌<◌, ◌≤◌, min, false, true, List, [], length, take, get_or, slice_index, slice_index_or, slice_set, Some, None, Option, refl, sym, ap, subst, ◌∙◌, arith, ℤ, pos, ⊎_elim, get_or-set_same, get_or-set_other, unwrap_or}
+use Rattle.std.proofs.Common.{◌≡◌, ◌≢◌, ℕ, ◌*◌, ◌<◌, ◌≤◌, List, [], length, take, slice_index, slice_index_or, slice_set, Some, Option, refl, sym, ap, subst, ◌∙◌, arith, ℤ, ⊎_elim, get_or-set_same, get_or-set_other, unwrap_or}
 use Rattle.std.proofs.Math.Nat.{mul-le-mul}
 use Rattle.std.proofs.lemmas.Bool.Decides.{eqb_tells}
 use Rattle.std.proofs.lemmas.Bool.{cases_lt}
@@ -7,17 +7,15 @@ use Rattle.std.proofs.lemmas.Option.{none-some, same_Some}
 use Rattle.std.proofs.lemmas.List.{get_or_past, take-take}
 use Rattle.net_ir.specs.declared.network.Module.{Module}
 use Rattle.staged_cells.specs.Streams.{module_at}
-use Rattle.soda_io.specs.Store.{KeepsIds, Store, content}
-use Rattle.bursts.specs.Blocks.{Kind, ReadsOn, WritesOn, cells_in}
-use Rattle.bursts.specs.Readers.{StandsAt, kind}
-use Rattle.bursts.specs.Writers.{HasPut}
+use Rattle.soda_io.specs.Store.{Store, content}
+use Rattle.bursts.specs.Blocks.{cells_in}
+use Rattle.bursts.specs.Readers.{kind}
 use Rattle.file_modules.specs.Firings.{cells_before}
-use Rattle.file_modules.specs.Modules.{Source, read_before, sink, source}
+use Rattle.file_modules.specs.Modules.{Source, source}
 use Rattle.cycle_sim.specs.Settings.{Settings, net_in}
-use Rattle.cycle_sim.specs.Stations.{AreApart, AreBegun, AreReady, SinkAt, SourceAt, StationAt, Units, good_in, id_of, read_id, station_at, was_read, write_id, written_by}
+use Rattle.cycle_sim.specs.Stations.{AreBegun, AreReady, StationAt, Units, good_in, id_of, read_id, station_at, was_read, write_id, written_by}
 use Rattle.cycle_sim.specs.machine.Firings.{GoesOn, Moves, Spares, Touches}
 use Rattle.cycle_sim.specs.declared.stations.SourceStation.{SourceStation}
-use Rattle.cycle_sim.specs.declared.stations.SinkStation.{SinkStation}
 use Rattle.cycle_sim.specs.declared.stations.Station.{Station}
 use Rattle.cycle_sim.specs.declared.stations.Station.TheVariants as station
 

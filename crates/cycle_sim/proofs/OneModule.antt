@@ -1,22 +1,23 @@
 -- No two modules of a run are one, and no two sinks are of outputs of one number.
-use Rattle.std.proofs.Common.{◌≡◌, ◌↔◌, ℕ, ◌<◌, ◌&&◌, ◌==◌, Bool, true, false, not, List, ◌∷◌, ◌++◌, All, Contains, length, map, get_or, slice_get, slice_index_or, None, Some, refl, sym, ap, subst, ◌∙◌, arith, ⊎_elim, if◌then◌else◌}
+use Rattle.std.proofs.Common.{◌≡◌, ℕ, ◌<◌, ◌&&◌, ◌==◌, Bool, true, false, not, List, ◌∷◌, ◌++◌, Contains, length, get_or, slice_get, slice_index_or, None, Some, refl, sym, ap, subst, ◌∙◌, arith, ⊎_elim, if◌then◌else◌}
 use Rattle.std.proofs.lemmas.Bool.{eqb-true}
 use Rattle.std.proofs.lemmas.List.{get_or-map, length-map}
 use Rattle.std.proofs.lemmas.List.Elements.{Contains-get_or}
 use Rattle.std.proofs.lemmas.Option.{slice_get_cases}
 use Rattle.net_ir.specs.declared.network.Module.{Module}
 use Rattle.net_ir.specs.declared.network.Module.TheVariants.{Sink}
-use Rattle.net_shape.specs.declared.kinds.Kind.{Kind}
 use Rattle.net_shape.specs.declared.kinds.Kind.TheVariants as kind
 use Rattle.net_shape.specs.Modules.{IsThere, modules_of, number_of}
-use Rattle.net_shape.specs.Plans.{IsPlan, Plan, kind_at}
+use Rattle.net_shape.specs.Plans.{Plan}
 use Rattle.net_shape.specs.Queues.{network_of}
 use Rattle.net_build.specs.Planned.{kind_of, plan_of}
 use Rattle.soda_ir.specs.Counts.{is_input, is_output, output_number}
 use Rattle.soda_ir.specs.Program.{PlainProgram}
 use Rattle.time_stages.specs.declared.staging.StagedTensor.{StagedTensor}
 use Rattle.time_stages.specs.Placing.{is_among, placing_order}
-use Rattle.time_stages.specs.Staged.{staged_tensors}
+use Rattle.time_stages.specs.Staged.{staged_tensors, type_of}
+use Rattle.soda_words.specs.IntType.{int32}
+use Rattle.staged_cells.specs.Cells.{type_at}
 use Rattle.staged_cells.specs.Sends.{output_of}
 use Rattle.cycle_sim.proofs.Apart.{one_number, one_output}
 
@@ -58,6 +59,7 @@ pub record IsLast (p : PlainProgram) (v : ℕ) : Type 0 where
   pub output : is_output p stage.tensor ≡ true
   pub turn : stage.turn ≡ p.iterate
   pub number : output_of p v ≡ output_number p stage.tensor
+  pub type : type_at p v ≡ type_of p stage.tensor
 
 pub last_of : (p : PlainProgram) (delays : List ℕ) (v : ℕ) → IsThere (plan_of p delays) (Sink v) → IsLast p v
 last_of p delays v there =
@@ -73,6 +75,7 @@ last_of p delays v there =
       output = both.0;
       turn = eqb-true s.turn p.iterate both.1;
       number = ap (λ o. elim o [ None ↦ 0 | Some s ↦ output_number p s.tensor ]) found.2;
+      type = get_or-map (λ (t : StagedTensor). type_of p t.tensor) ts v s int32 found.1 ∙ ap (λ (t : StagedTensor). type_of p t.tensor) found.3;
     })
     (λ past. absurd (omega (arith, past.0, there.0, length-map ts (kind_of p))))
     (slice_get_cases ts v).1

@@ -1,6 +1,5 @@
 -- A firing of a module of a run: that it may be done, what it sends, and what it hands on.
-use Rattle.std.proofs.Common.{◌≡◌, ◌≢◌, ℕ, ◌+◌, ◌-◌, ◌*◌, ◌<◌, ◌≤◌, ◌^◌, ◌++◌, All, List, [], length, map, take, drop, get_or, slice_index, slice_index_or, Some, refl, sym, ap, subst, ◌∙◌, arith, ℤ, pos, ◌-ℤ◌, ◌<ℤ◌}
-use Rattle.std.proofs.lemmas.Int.{ints}
+use Rattle.std.proofs.Common.{◌≡◌, ℕ, ◌+◌, ◌-◌, ◌*◌, ◌<◌, ◌≤◌, ◌^◌, ◌++◌, All, List, [], length, map, take, get_or, slice_index, slice_index_or, sym, ap, subst, ◌∙◌, arith, ℤ, pos, ◌-ℤ◌, ◌<ℤ◌}
 use Rattle.std.proofs.lemmas.List.{length-map}
 use Rattle.std.proofs.lemmas.List.Elements.{All-get_or}
 use Rattle.int_types.specs.Ranges.{InRange, wrapped}
@@ -9,7 +8,7 @@ use Rattle.bursts.specs.Writers.{output}
 use Rattle.soda_io.specs.Store.{Store}
 use Rattle.net_ir.specs.Nets.{entrances, exits}
 use Rattle.net_ir.specs.declared.network.Module.{Module}
-use Rattle.net_ir.specs.declared.network.Module.TheVariants.{Source, Forward, Compute, Sink}
+use Rattle.net_ir.specs.declared.network.Module.TheVariants.{Source}
 use Rattle.soda_ir.specs.Points.{listed}
 use Rattle.soda_ir.specs.Program.{input_types}
 use Rattle.soda_ir.proofs.CallerLemmas.{get-listed, length-listed}
@@ -29,7 +28,6 @@ use Rattle.cycle_sim.specs.declared.stations.SourceStation.{SourceStation}
 use Rattle.cycle_sim.specs.declared.stations.SinkStation.{SinkStation}
 use Rattle.cycle_sim.specs.declared.stations.Station.{Station}
 use Rattle.cycle_sim.specs.declared.stations.Station.TheVariants as station
-use Rattle.cycle_sim.proofs.After.{HandsOn}
 use Rattle.cycle_sim.proofs.Lanes.{difference, same_lane, short_array, small_place, some_bits, wrapped_part}
 use Rattle.cycle_sim.proofs.Moving.{same_good, there}
 

@@ -1,5 +1,5 @@
 -- A firing of one module of a run: what it leaves of the whole.
-use Rattle.std.proofs.Common.{◌≡◌, ℕ, ◌+◌, ◌<◌, ◌≤◌, ◌^◌, List, Some, length, slice_index, slice_set, length-set, refl, sym, ap, subst, ◌∙◌, arith, ℤ}
+use Rattle.std.proofs.Common.{◌≡◌, ℕ, ◌<◌, ◌≤◌, ◌^◌, List, Some, length, slice_index, slice_set, length-set, refl, sym, ap, subst, ◌∙◌, arith, ℤ}
 use Rattle.int_types.specs.Ranges.{InRange}
 use Rattle.soda_io.specs.Store.{Store}
 use Rattle.net_ir.specs.Nets.{Net, entrances, exits}
@@ -11,7 +11,7 @@ use Rattle.staged_cells.specs.Cells.{type_at}
 use Rattle.staged_cells.specs.Streams.{cell_number, module_at, stage_cell}
 use Rattle.cycle_sim.specs.Settings.{AreInputs, IsSettings, Settings, net_in, plan_in, streams_over}
 use Rattle.cycle_sim.specs.Sends.{SendsBy, exit_lanes}
-use Rattle.cycle_sim.specs.Stations.{AgreesWith, AreBegun, AreReady, IsSinkOf, StationAt, Units, id_of, station_at, written_by}
+use Rattle.cycle_sim.specs.Stations.{AgreesWith, AreBegun, AreReady, IsSinkOf, StationAt, Units, station_at, written_by}
 use Rattle.cycle_sim.specs.Onward.{Onward}
 use Rattle.cycle_sim.specs.Stopped.{IsStopped}
 use Rattle.cycle_sim.specs.machine.Firings.{Fired, GoesOn, MayFire, Moves, Stops, Touches}

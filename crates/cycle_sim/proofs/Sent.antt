@@ -1,8 +1,8 @@
 -- What a module sends, said queue by queue.
-use Rattle.std.proofs.Common.{◌≡◌, ℕ, ◌<◌, List, [], length, map, get_or, slice_index, slice_index_or, refl, sym, ap, ◌∙◌, arith, ℤ, pos, Contains}
+use Rattle.std.proofs.Common.{◌≡◌, ℕ, ◌<◌, List, [], length, map, get_or, slice_index_or, refl, sym, ap, ◌∙◌, arith, ℤ, pos}
 use Rattle.std.proofs.lemmas.List.{ext_get_or, length-map, get_or-map}
 use Rattle.std.proofs.lemmas.List.Elements.{Contains-get_or}
-use Rattle.net_ir.specs.Nets.{Net, StandInOrder, exits, queue_at}
+use Rattle.net_ir.specs.Nets.{Net, StandInOrder, exits}
 use Rattle.net_ir.specs.declared.network.Module.{Module}
 use Rattle.net_ir.specs.declared.network.Module.TheVariants.{Source, Forward, Compute, Sink}
 use Rattle.staged_cells.specs.Sends.{array_of, numbered, sent_by, sent_item}

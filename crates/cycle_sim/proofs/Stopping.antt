@@ -1,10 +1,9 @@
 -- What holds where a firing of a module was stopped.
-use Rattle.std.proofs.Common.{◌≡◌, ◌≢◌, ℕ, ◌+◌, ◌<◌, ◌≤◌, ◌++◌, List, [], length, length-take, take, map, slice_index, Some, None, Err, refl, sym, ap, subst, ◌∙◌, arith, ℤ, ⊎_elim, append-nil}
+use Rattle.std.proofs.Common.{◌≡◌, ◌≢◌, ℕ, ◌+◌, ◌<◌, ◌≤◌, List, [], length, length-take, take, slice_index, Some, Err, refl, sym, ap, subst, ◌∙◌, arith, ℤ, ⊎_elim, append-nil}
 use Rattle.std.proofs.lemmas.Bool.Decides.{eqb_tells}
 use Rattle.std.proofs.lemmas.Bool.{cases_lt}
 use Rattle.std.proofs.lemmas.Option.{none-some}
 use Rattle.std.proofs.lemmas.List.{get_or_past, take-take}
-use Rattle.soda_io.specs.Cause.{Rose}
 use Rattle.soda_io.specs.Store.{Store, content}
 use Rattle.array_bytes.specs.Written.{begun}
 use Rattle.bursts.specs.Readers.{kind}
@@ -16,8 +15,8 @@ use Rattle.net_ir.specs.declared.network.Module.{Module}
 use Rattle.net_ir.specs.declared.network.Module.TheVariants.{Sink}
 use Rattle.staged_cells.specs.Streams.{module_at, tensor_of}
 use Rattle.cycle_sim.specs.Settings.{AreInputs, Settings, array_cells, array_over, net_in}
-use Rattle.cycle_sim.specs.Stations.{AreBegun, AreReady, IsSinkOf, StationAt, Units, id_of, read_id, station_at, write_id, written_by}
-use Rattle.cycle_sim.specs.Stopped.{CauseIs, HoldPrefixes, IsStopped}
+use Rattle.cycle_sim.specs.Stations.{AreBegun, AreReady, IsSinkOf, StationAt, Units, id_of, station_at, write_id, written_by}
+use Rattle.cycle_sim.specs.Stopped.{CauseIs, IsStopped}
 use Rattle.cycle_sim.specs.machine.Firings.{GoesOn, Moves, OfSink, Stops}
 use Rattle.cycle_sim.specs.declared.stop.Stop.{Stop}
 use Rattle.cycle_sim.specs.declared.stop.Stop.TheVariants as stops

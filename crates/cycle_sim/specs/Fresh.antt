@@ -3,10 +3,12 @@ use Rattle.std.specs.Prelude.{◌≡◌, ◌≢◌, ℕ, ◌<◌, true, false, L
 use Rattle.soda_io.specs.Store.{Store}
 use Rattle.bursts.specs.Readers.{StandsAt, given_by}
 use Rattle.bursts.specs.Writers.{HasPut}
+use Rattle.net_ir.specs.Nets.{Net}
 use Rattle.net_ir.specs.declared.network.Module.{Module}
 use Rattle.net_ir.specs.declared.network.Module.TheVariants.{Source, Forward, Compute, Sink}
+use Rattle.staged_cells.specs.Streams.{module_at}
 use Rattle.cycle_sim.specs.Settings.{Settings}
-use Rattle.cycle_sim.specs.Stations.{IsSinkOf, IsSourceOf, UnitAt, Units, read_id, write_id}
+use Rattle.cycle_sim.specs.Stations.{IsSinkOf, IsSourceOf, UnitAt, Units, read_id, station_at, write_id}
 use Rattle.cycle_sim.specs.declared.stations.SourceStation.{SourceStation}
 use Rattle.cycle_sim.specs.declared.stations.SinkStation.{SinkStation}
 use Rattle.cycle_sim.specs.declared.stations.Station.{Station}
@@ -57,3 +59,10 @@ IsNew units c inputs outputs m kind (station.Compute u) =
     (v : ℕ) × (lane : ℕ) × (kind ≡ Compute v lane) × UnitAt units c m v lane 0 u
 IsNew units c inputs outputs m kind (station.Sink s) =
     (v : ℕ) × (kind ≡ Sink v) × IsSinkOf c m v s × IsNewSink outputs s
+
+-- what all modules of a network work with before the first cycle
+pub record AreNew {U : Type 0} (units : Units U) (c : Settings) (inputs outputs : List ℕ) (net : Net)
+    (stations : List (Station U)) : Type 0 where
+  pub count : length stations ≡ length net.modules
+  pub each : (m : ℕ) → m < length stations
+      → IsNew units c inputs outputs m (module_at net m) (station_at stations m)

@@ -7,3 +7,4 @@ pub mod Paths
 pub mod machine
 pub mod Running
 pub mod Fresh
+pub mod Ends

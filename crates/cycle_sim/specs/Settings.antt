@@ -1,5 +1,5 @@
 -- What a run is about, and the arrays that its inputs may hold.
-use Rattle.std.specs.Prelude.{◌≡◌, ℕ, ◌<◌, ◌≤◌, List, [], ℤ, pos, slice_index, slice_index_or}
+use Rattle.std.specs.Prelude.{ℕ, ◌<◌, ◌≤◌, List, ℤ, pos}
 use Rattle.array_bytes.specs.declared.form.Form.{Form}
 use Rattle.delay_net.specs.Windows.{HasShortDelays}
 use Rattle.net_ir.specs.Nets.{Net}

@@ -1,5 +1,5 @@
 -- What stops a run, and what holds then.
-use Rattle.std.specs.Prelude.{◌≡◌, ℕ, ◌+◌, List, ℤ, take, slice_index, Some}
+use Rattle.std.specs.Prelude.{◌≡◌, ℕ, ◌+◌, List, ℤ, take, Some}
 use Rattle.std.specs.Prelude.{Err}
 use Rattle.soda_io.specs.Cause.{Rose}
 use Rattle.soda_io.specs.Store.{Store, content}

@@ -1,10 +1,15 @@
-ghost use Rattle.std.specs.Prelude.{◌≡◌, ℕ, ◌<◌, List, ℤ, length};
+ghost use Rattle.std.specs.Prelude.{◌≡◌, ℕ, ◌<◌, All, List, Some, ℤ, false, length, slice_get};
+ghost use Rattle.soda_ir.specs.Counts.{count_below, is_input, is_output};
+ghost use Rattle.soda_ir.specs.Program.{input_types};
+ghost use Rattle.time_stages.specs.declared.staging.StagedTensor.{StagedTensor};
+ghost use Rattle.time_stages.specs.Staged.{staged_tensors};
+ghost use Rattle.cycle_sim.specs.Ends.{AreWhole};
 ghost use Rattle.int_types.specs.Ranges.{InRange};
-ghost use Rattle.net_ir.specs.Nets.{exits};
-ghost use Rattle.net_ir.specs.declared.network.Module.TheVariants.{Sink};
+ghost use Rattle.net_ir.specs.Nets.{entrances, exits};
+ghost use Rattle.net_ir.specs.declared.network.Module.TheVariants.{Compute, Sink, Source};
 ghost use Rattle.net_cycles.specs.Streams.{port_values, sent_values};
 ghost use Rattle.soda_ir.specs.Points.{listed};
-ghost use Rattle.staged_cells.specs.Cells.{type_at};
+ghost use Rattle.staged_cells.specs.Cells.{port_types, type_at};
 ghost use Rattle.staged_cells.specs.Sends.{output_of};
 ghost use Rattle.staged_cells.specs.Streams.{cell_number, module_at, stage_cell};
 ghost use Rattle.cycle_sim.specs.Settings.{AreInputs, IsSettings, Settings, net_in, plan_in, streams_over};
@@ -12,8 +17,11 @@ ghost use Rattle.cycle_sim.specs.Sends.{SendsBy, exit_lanes};
 
 use net_build::programs_have_plans;
 use net_ir::queues_stand_in_order;
-use net_shape::modules_are_numbered;
-use staged_cells::{modules_send_streams, sinks_take_arrays, stage_cells_are_in_range};
+use net_shape::{modules_are_numbered, networks_fit};
+use staged_cells::{
+    inputs_are_staged_first, modules_send_streams, ports_are_of_reads, sinks_take_arrays,
+    stage_cells_are_in_range,
+};
 use time_stages::{placing_is_good, staged_tensors_keep_margins};
 
 /// A module that sends what `SendsBy` says, where its ports hold the streams of its queues, sends the items of the
@@ -60,4 +68,32 @@ pub fn modules_of_a_run_are_apart()
     modules_are_numbered();
     placing_is_good();
     staged_tensors_keep_margins();
+}
+
+/// The source of a run is of one of the inputs, whole cells of whose type fill a burst, and so is the sink of one of the
+/// outputs. A computing module is of a staged tensor that is no input, and has a port for each read of it. The lanes of the
+/// modules to which queues from a module lead are below the unroll factor.
+pub fn modules_of_a_run_have_ends()
+    ensures source { (c : Settings) (m v : ℕ) → IsSettings c → m < length (net_in c).modules
+        → module_at (net_in c) m ≡ Source v
+        → (v < length (input_types c.program.tensors)) × AreWhole c.program.burst (type_at c.program v) }
+    ensures sink { (c : Settings) (m v : ℕ) → IsSettings c → m < length (net_in c).modules
+        → module_at (net_in c) m ≡ Sink v → (output_of c.program v
+        < count_below (is_output c.program) (length c.program.tensors))
+        × AreWhole c.program.burst (type_at c.program v) }
+    ensures compute { (c : Settings) (m v lane : ℕ) → IsSettings c → m < length (net_in c).modules
+        → module_at (net_in c) m ≡ Compute v lane → (lane < c.program.unroll)
+        × ((s : StagedTensor) × (slice_get (staged_tensors c.program) v ≡ Some s)
+        × (is_input c.program s.tensor ≡ false))
+        × (length (entrances (net_in c) m) ≡ length (port_types c.program v)) }
+    ensures lanes { (c : Settings) (m : ℕ) → IsSettings c → m < length (net_in c).modules
+        → All (λ lane. lane < c.program.unroll) (exit_lanes (net_in c) m) }
+{
+    programs_have_plans();
+    modules_are_numbered();
+    networks_fit();
+    queues_stand_in_order();
+    inputs_are_staged_first();
+    staged_tensors_keep_margins();
+    ports_are_of_reads();
 }

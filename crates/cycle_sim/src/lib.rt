@@ -5,12 +5,13 @@ mod laws;
 mod making;
 mod path;
 mod simulation;
+mod stationing;
 mod stations;
 mod stop;
 
 pub use laws::{
-    cells_of_a_run_are_in_range, modules_of_a_run_are_apart, modules_of_a_run_send,
-    sinks_of_a_run_take,
+    cells_of_a_run_are_in_range, modules_of_a_run_are_apart, modules_of_a_run_have_ends,
+    modules_of_a_run_send, sinks_of_a_run_take,
 };
 pub use path::FilePath;
 pub use simulation::Simulation;

@@ -1,14 +1,17 @@
-ghost use Rattle.std.specs.Prelude.{◌≡◌, ◌<◌, IfOk, length, map, slice_index, slice_index_or};
+ghost use Rattle.std.specs.Prelude.{◌≡◌, ◌<◌, ◌^◌, IfOk, length, map, slice_index, slice_index_or};
+ghost use Rattle.delay_net.specs.Windows.{HasShortDelays};
 ghost use Rattle.soda_words.specs.IntType.{int32};
 ghost use Rattle.soda_ir.specs.Program.{plain};
 ghost use Rattle.time_stages.specs.Staged.{staged, type_of};
 ghost use Rattle.staged_cells.specs.Cells.{type_at};
+ghost use Rattle.staged_cells.specs.Sends.{output_of};
 ghost use Rattle.staged_cells.specs.Streams.{lane_of, receiver};
 ghost use Rattle.cycle_sim.specs.Sends.{exit_lanes};
 
 use net_ir::{Module, Network};
 use soda_ir::{Parts, Program};
 use soda_words::Ty;
+use staged_cells::output_number;
 use std::alloc::{AllocError as NoMemory, Global};
 use time_stages::Staged;
 
@@ -37,7 +40,11 @@ fn lane_at(network: &Network, queue: u32) -> u32
 }
 
 /// The lanes of the modules that the queues from a module lead to, in queue order.
-pub(crate) fn lanes_from(alloc: Global, network: &Network, module: u32) -> Result<Vec<u32>, NoMemory>
+pub(crate) fn lanes_from(
+    alloc: Global,
+    network: &Network,
+    module: u32,
+) -> Result<Vec<u32>, NoMemory>
     requires { «module» < length network.now.modules }
     ensures { IfOk result (λ lanes. lanes.items ≡ exit_lanes network.now «module») }
 {
@@ -72,10 +79,22 @@ pub(crate) fn stage_type(program: &Program, staging: &Staged, number: u32) -> Ty
 
 /// The delay of a staged tensor, and 0 past the last.
 pub(crate) fn delay_of(delays: &[u64], number: u32) -> u64
-    ensures { result ≡ slice_index delays.now number }
+    ensures value { result ≡ slice_index delays.now number }
+    ensures short { HasShortDelays delays.now → result < 2 ^ 62 }
 {
     match delays.get(number as usize) {
         Some(delay) => *delay,
+        None => 0,
+    }
+}
+
+/// The number of the output that a sink of a staged tensor takes, and 0 past the last.
+pub(crate) fn output_at(program: &Program, staging: &Staged, number: u32) -> u32
+    requires { staging.now ≡ staged (plain program.now) }
+    ensures { result ≡ output_of (plain program.now) number }
+{
+    match staging.tensors.get(number as usize) {
+        Some(stage) => output_number(program.parts(), stage.tensor),
         None => 0,
     }
 }

@@ -1,4 +1,5 @@
 ghost use Rattle.std.specs.Prelude.{◌≡◌, ◌<◌, ◌^◌, slice_index};
+ghost use Rattle.soda_ir.specs.Program.{plain};
 ghost use Rattle.cycle_sim.specs.Settings.{net_in};
 ghost use Rattle.cycle_sim.specs.Stations.{AgreesWith, AreReady};
 ghost use Rattle.cycle_sim.specs.Stopped.{IsStopped};
@@ -14,6 +15,7 @@ use net_cycles::Datapath;
 use net_ir::Network;
 use soda_io::Files;
 use soda_ir::Program;
+use std::alloc::Global;
 
 /// What the modules of the network of a program under its delays compute, over files: the cells of the inputs are read
 /// from theirs, and those of the outputs written to theirs, firing by firing.
@@ -26,6 +28,39 @@ pub struct FilePath<U> {
     pub(crate) form: Form,
     pub(crate) run: u64,
     pub(crate) stations: Vec<Station<U>>,
+}
+
+impl<U> FilePath<U> {
+    /// A run of this program under these delays of its staged tensors. Its arrays have so many rows and stand in files of
+    /// this form; a line of a text has `run` cells. It has no modules yet.
+    pub fn new(
+        alloc: Global,
+        program: Program,
+        delays: Vec<u64>,
+        rows: u64,
+        params: Vec<i128>,
+        form: Form,
+        run: u64,
+    ) -> FilePath<U>
+        ensures { settings result ≡ record {
+          program = plain program;
+          delays = delays.items;
+          rows = rows;
+          params = params.items;
+          form = form;
+          run = run;
+        } }
+    {
+        FilePath {
+            program,
+            delays,
+            rows,
+            params,
+            form,
+            run,
+            stations: Vec::new(alloc),
+        }
+    }
 }
 
 impl<F: Files, U: Unit> Datapath<F> for FilePath<U> {

@@ -1,8 +1,8 @@
 -- One run of firings after another is a run of firings, and what stops the second stops the whole.
-use Rattle.std.proofs.Common.{◌≡◌, ◌∙◌, ℕ, ◌<◌, ◌≤◌, List, Some, refl, sym, subst, arith}
-use Rattle.soda_io.specs.Store.{KeepsIds, Store}
+use Rattle.std.proofs.Common.{◌∙◌, ℕ, ◌<◌, ◌≤◌, List, refl, sym, subst, arith}
+use Rattle.soda_io.specs.Store.{Store}
 use Rattle.cycle_sim.specs.Settings.{Settings}
-use Rattle.cycle_sim.specs.Onward.{IsSpared, Onward}
+use Rattle.cycle_sim.specs.Onward.{Onward}
 use Rattle.cycle_sim.specs.Stopped.{CauseIs, IsStopped}
 use Rattle.cycle_sim.specs.declared.stop.Stop.{Stop}
 use Rattle.cycle_sim.specs.declared.stop.Stop.TheVariants.{Input, Output}

@@ -316,7 +316,7 @@ const ROWS: &[Row] = &[
         Some(SUMS),
         b"orrocrrw",
     ),
-    // What isn't built asks for no file.
+    // What isn't built asks for no file, shared or not.
     (
         "sodac sim p 5 i o",
         &[],
@@ -327,7 +327,7 @@ const ROWS: &[Row] = &[
         b"",
     ),
     (
-        "sodac --share selftest 7",
+        "sodac --share sim p 5 i o",
         &[],
         ALL,
         Status::NotYetBuilt,

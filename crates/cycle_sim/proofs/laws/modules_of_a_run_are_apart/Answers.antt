@@ -1,5 +1,4 @@
-use Rattle.std.proofs.Common.{◌≡◌, ◌∙◌, ℕ, List, Contains, length, get_or, sym, ap, subst}
-use Rattle.net_ir.specs.declared.network.Module.{Module}
+use Rattle.std.proofs.Common.{◌≡◌, ◌∙◌, sym, ap}
 use Rattle.net_ir.specs.declared.network.Module.TheVariants.{Sink}
 use Rattle.net_shape.specs.Modules.{IsThere}
 use Rattle.net_shape.specs.Plans.{IsPlan, Plan}

@@ -1,5 +1,4 @@
 use Rattle.std.proofs.Common.{◌∙◌}
-use Rattle.staged_cells.specs.Streams.{module_at}
 use Rattle.cycle_sim.specs.Settings.{net_in, streams_over}
 use Rattle.cycle_sim.proofs.Sent.{all_sent}
 use Rattle.cycle_sim.proofs.laws.modules_of_a_run_send.Goals as goal

@@ -1,14 +1,10 @@
-use Rattle.std.proofs.Common.{◌≡◌, ◌∙◌, ℕ, ℤ, List, length, slice_index, slice_set, refl, sym, ap, subst}
+use Rattle.std.proofs.Common.{◌∙◌, ℕ, length, slice_index, slice_set, sym, subst}
 use Rattle.std.proofs.lemmas.List.{get_or_default}
 use Rattle.std.proofs.lemmas.Result.{IfErr-weaker, IfOk-weaker}
-use Rattle.net_ir.specs.Nets.{Net}
 use Rattle.net_cycles.specs.Between.{fired_once}
-use Rattle.net_cycles.specs.Streams.{sent_values}
 use Rattle.cycle_sim.specs.Paths.{settings}
-use Rattle.cycle_sim.specs.Settings.{net_in}
-use Rattle.cycle_sim.specs.Stations.{AgreesWith, AreReady, Units}
+use Rattle.cycle_sim.specs.Stations.{AreReady, Units}
 use Rattle.cycle_sim.specs.Onward.{Onward}
-use Rattle.cycle_sim.specs.Stopped.{IsStopped}
 use Rattle.cycle_sim.specs.machine.Firings.{Fired, Stops}
 use Rattle.cycle_sim.specs.declared.stations.Station.TheVariants.{Forward}
 use Rattle.cycle_sim.proofs.Run.{agrees_before, goes_onward, may, ready_next, stopped_there, there_is, was_sent}

@@ -1,4 +1,4 @@
-use Rattle.std.proofs.Common.{◌≡◌, ℕ, ◌<◌, ◌∙◌, List, ℤ, pos, ap, arith, length, slice_index, slice_index_or}
+use Rattle.std.proofs.Common.{ℕ, ◌<◌, ◌∙◌, List, ℤ, pos, ap, arith, length, slice_index, slice_index_or}
 use Rattle.soda_io.specs.Store.{content}
 use Rattle.bursts.specs.Blocks.{cells_in}
 use Rattle.bursts.specs.Readers.{kind}
