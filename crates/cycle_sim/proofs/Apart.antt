@@ -1,5 +1,5 @@
 -- No two staged tensors are the same tensor in the same iteration, and no two outputs have one number.
-use Rattle.std.proofs.Common.{◌≡◌, ◌≢◌, ℕ, zero, suc, ◌-◌, ◌<◌, ◌≤◌, Bool, true, false, not, ◌==◌, eq-eqb, All, AllPairs, List, [], ◌∷◌, ◌++◌, length, map, filter, take, drop, get_or, slice_get, Some, refl, sym, ap, subst, ◌∙◌, arith, ⊎_elim, length-take, length-append, if◌then◌else◌}
+use Rattle.std.proofs.Common.{◌≡◌, ◌≢◌, ◌+◌, ℕ, zero, suc, ◌-◌, ◌<◌, ◌≤◌, Bool, true, false, not, ◌==◌, eq-eqb, All, AllPairs, List, [], ◌∷◌, ◌++◌, length, map, filter, take, drop, get_or, slice_get, Some, refl, sym, ap, subst, ◌∙◌, arith, ⊎_elim, length-take, length-append, if◌then◌else◌}
 use Rattle.std.proofs.Math.Seq.{drop-cons, get_or-append_right}
 use Rattle.std.proofs.lemmas.Bool.{cases_lt, false≢true}
 use Rattle.std.proofs.lemmas.List.{get_or-map, get_or-take, get_or_append_left, length-map, take-append-drop}
@@ -72,17 +72,29 @@ kept : (f : ℕ → Bool) (xs : List ℕ) → All (λ y. f y ≡ true) (filter f
 kept f [] = All-nil (λ y. f y ≡ true)
 kept f (x ∷ xs) = kept_by f x (filter f xs) (f x) refl (kept f xs)
 
--- there are more before a later number
-pub count_more : (f : ℕ → Bool) (x y : ℕ) → x < y → f x ≡ true → count_below f x < count_below f y
-count_more f x zero lt e = absurd (omega (arith, lt))
-count_more f x (suc y) lt e =
-    ⊎_elim
-    (λ (less : x < y). omega (arith, count_more f x y less e))
-    (λ (last : y ≤ x).
-    let same : x ≡ y = omega (arith, lt, last) in
-    let one : ◌≡◌ {A = ℕ} (if f y then 1 else 0) 1 = ap (λ c. if c then 1 else 0) (ap f (sym same) ∙ e) in
-    omega (arith, one, ap (count_below f) same))
-    (cases_lt x y)
+-- one that passes is counted before each later number
+counted : (f : ℕ → Bool) (x d : ℕ) → f x ≡ true → suc (count_below f x) ≤ count_below f (d + suc x)
+counted f x zero e =
+    let one : ◌≡◌ {A = ℕ} (if f x then 1 else 0) 1 = ap (λ c. if c then 1 else 0) e in
+    let same : zero + suc x ≡ suc x = omega arith in
+    let next : count_below f (suc x) ≡ count_below f x + (if f x then 1 else 0) = refl in
+    omega (arith, one, ap (count_below f) same, next)
+counted f x (suc d) e =
+    let same : suc d + suc x ≡ suc (d + suc x) = omega arith in
+    let next : count_below f (suc (d + suc x)) ≡ count_below f (d + suc x) + (if f (d + suc x) then 1 else 0) = refl in
+    omega (arith, counted f x d e, ap (count_below f) same, next)
+
+-- so it is not counted as a later one is
+pub counted_apart : (f : ℕ → Bool) (x y : ℕ) → x < y → f x ≡ true → count_below f x ≡ count_below f y → ⊥
+counted_apart f x y lt e same =
+    let back : (y - suc x) + suc x ≡ y = omega (arith, lt) in
+    omega (arith, counted f x (y - suc x) e, ap (count_below f) back, same)
+
+-- and there are more in all
+pub counted_within : (f : ℕ → Bool) (x n : ℕ) → x < n → f x ≡ true → suc (count_below f x) ≤ count_below f n
+counted_within f x n lt e =
+    let back : (n - suc x) + suc x ≡ n = omega (arith, lt) in
+    omega (arith, counted f x (n - suc x) e, ap (count_below f) back)
 
 module _ (p : PlainProgram)
     (once : (before after : List ℕ) (x : ℕ) → placing_order p ≡ before ++ x ∷ after → is_among x before ≡ false)
@@ -187,10 +199,10 @@ module _ (p : PlainProgram)
   pub one_output : (x y : ℕ) → (f : ℕ → Bool) → f x ≡ true → f y ≡ true → count_below f x ≡ count_below f y → x ≡ y
   one_output x y f a b same =
       ⊎_elim
-      (λ (lt : x < y). absurd (omega (arith, count_more f x y lt a, same)))
+      (λ (lt : x < y). absurd (counted_apart f x y lt a same))
       (λ (le : y ≤ x).
       ⊎_elim
-      (λ (lt : y < x). absurd (omega (arith, count_more f y x lt b, same)))
+      (λ (lt : y < x). absurd (counted_apart f y x lt b (sym same)))
       (λ (ge : x ≤ y). omega (arith, le, ge))
       (cases_lt y x))
       (cases_lt x y)

@@ -53,9 +53,9 @@ port_same f rs i n r vs lt is other have =
     let by = reads_more rs i n r lt is ∙ ap (λ b. reads_by (take i rs) n ++ (if b then r ∷ [] else [])) other ∙ nil_behind (reads_by (take i rs) n) in
     subst (λ (qs : List Read). HasValues (map f qs) vs) (sym by) have
 
--- there is a value for each type
-pub one_for_each : (ts : List IntType) (vs : List ℤ) → HasValues ts vs → length vs ≡ length ts
-one_for_each [] [] h = refl
-one_for_each [] (v ∷ vs) h = absurd h
-one_for_each (t ∷ ts) [] h = absurd h
-one_for_each (t ∷ ts) (v ∷ vs) h = ap suc (one_for_each ts vs h.1)
+-- there is a value for each read
+pub one_for_each : (f : Read → IntType) (rs : List Read) (vs : List ℤ) → HasValues (map f rs) vs → length vs ≡ length (map f rs)
+one_for_each f [] [] h = refl
+one_for_each f [] (v ∷ vs) h = absurd h
+one_for_each f (r ∷ rs) [] h = absurd h
+one_for_each f (r ∷ rs) (v ∷ vs) h = ap suc (one_for_each f rs vs h.1)

@@ -9,7 +9,7 @@ use Rattle.net_shape.specs.Plans.{IsPlan, Plan}
 use Rattle.staged_cells.specs.Streams.{lane_of, receiver}
 use Rattle.cycle_sim.specs.Ends.{AreWhole}
 use Rattle.cycle_sim.specs.Settings.{net_in, plan_in}
-use Rattle.cycle_sim.proofs.Apart.{count_more}
+use Rattle.cycle_sim.proofs.Apart.{counted_within}
 use Rattle.cycle_sim.proofs.EndsOfRuns.{inner_stage, input_stage, lane_within, whole_input, whole_output}
 use Rattle.cycle_sim.proofs.OneModule.{IsLast, last_of, module_there}
 use Rattle.cycle_sim.proofs.laws.modules_of_a_run_have_ends.Goals as goal
@@ -33,7 +33,7 @@ returns-clause-sink c s m v settings lt is =
     let there : IsThere plan (Sink v) = (c.modules_are_numbered.ensures.set plan (Sink v) is_plan).0 (module_there plan m (Sink 0) (Sink v) lt is) in
     let last : IsLast s.program v = last_of s.program s.delays v there in
     let known = (c.staged_tensors_keep_margins.ensures.turns s.program v last.stage settings.streams.valid.sound last.is).2 in (
-      omega (arith, last.number, count_more (is_output s.program) last.stage.tensor (length s.program.tensors) known last.output),
+      omega (arith, last.number, counted_within (is_output s.program) last.stage.tensor (length s.program.tensors) known last.output),
       subst (AreWhole s.program.burst) (sym last.type) (whole_output s.program last.stage.tensor settings.streams.valid.sound.ends.bursts last.output),
     )
 
