@@ -1,5 +1,5 @@
 -- A firing of one module of a run: what it leaves of the whole.
-use Rattle.std.proofs.Common.{◌≡◌, ℕ, ◌<◌, ◌≤◌, ◌^◌, List, Some, length, slice_index, slice_set, length-set, refl, sym, ap, subst, ◌∙◌, arith, ℤ}
+use Rattle.std.proofs.Common.{◌≡◌, ℕ, ◌<◌, ◌≤◌, ◌^◌, Bool, false, List, Some, length, slice_index, slice_set, length-set, refl, sym, ap, subst, ◌∙◌, arith, ℤ}
 use Rattle.int_types.specs.Ranges.{InRange}
 use Rattle.soda_io.specs.Store.{Store}
 use Rattle.net_ir.specs.Nets.{Net, entrances, exits}
@@ -78,11 +78,13 @@ module _ {U : Type 0} (tells : Type 0) (units : Units U) (c : Settings) (given :
     }
 
     -- what changed
-    pub goes_onward : (p q : ℕ) → p ≤ q → Onward tells c c given given old new stations after p q
-    goes_onward p q later = record {
+    pub goes_onward : (p q : ℕ) (once now : Bool) → p ≤ q → (now ≡ false → (once ≡ false) × (q ≡ p))
+        → Onward tells c c given given old new stations after p q once now
+    goes_onward p q once now later kept = record {
       settings = refl;
       given = refl;
       faults = later;
+      kept = kept;
       ids = ids_stay tells given old new stations after m the_moves;
       writers = writers_stay tells given old new stations after m the_moves;
       names = λ told. (touch told).ids;

@@ -1,4 +1,4 @@
-ghost use Rattle.std.specs.Prelude.{◌≡◌, ◌<◌, ◌^◌, slice_index};
+ghost use Rattle.std.specs.Prelude.{◌≡◌, ◌<◌, ◌^◌, false, slice_index};
 ghost use Rattle.soda_ir.specs.Program.{plain};
 ghost use Rattle.cycle_sim.specs.Settings.{net_in};
 ghost use Rattle.cycle_sim.specs.Stations.{AgreesWith, AreReady};
@@ -28,6 +28,8 @@ pub struct FilePath<U> {
     pub(crate) form: Form,
     pub(crate) run: u64,
     pub(crate) stations: Vec<Station<U>>,
+    // A firing was stopped.
+    stopped: bool,
 }
 
 impl<U> FilePath<U> {
@@ -59,6 +61,7 @@ impl<U> FilePath<U> {
             form,
             run,
             stations: Vec::new(alloc),
+            stopped: false,
         }
     }
 }
@@ -69,20 +72,21 @@ impl<F: Files, U: Unit> Datapath<F> for FilePath<U> {
     ghost agrees = { λ d files net stream.
         AgreesWith F.tells (settings d) (F.store files) d.stations.items stream };
 
-    ghost ready = { λ d files net fired. (net ≡ net_in (settings d)) × AreReady F.tells
+    ghost ready = { λ d files net fired. (d.stopped ≡ false) × (net ≡ net_in (settings d)) × AreReady F.tells
         (record { value = U.value; place = U.place; step = U.step; count = U.count }) (settings d) (F.given files)
         (F.store files) d.stations.items fired };
 
     ghost relies = { λ d net fired m. slice_index fired m < 2 ^ 40 };
 
     ghost onward = { λ d files e later. Onward F.tells (settings d) (settings e) (F.given files) (F.given later)
-        (F.store files) (F.store later) d.stations.items e.stations.items (F.faults files) (F.faults later) };
+        (F.store files) (F.store later) d.stations.items e.stations.items (F.faults files) (F.faults later) d.stopped
+        e.stopped };
 
     ghost stopped = { λ d files e later net fired m stop. IsStopped F.tells (settings e) (F.store later)
         e.stations.items (F.faults files) (F.faults later) m (slice_index fired m) stop };
 
     ghost stays = { λ d files. first_stays F.tells (settings d) (F.given files) (F.store files) d.stations.items
-        (F.faults files) };
+        (F.faults files) d.stopped };
 
     ghost follows = { λ a b c x y z one two. one_follows one two };
 
@@ -100,6 +104,12 @@ impl<F: Files, U: Unit> Datapath<F> for FilePath<U> {
         modules_of_a_run_send();
         sinks_of_a_run_take();
         cells_of_a_run_are_in_range();
-        self.stations[module as usize].fire(files, fired[module as usize], ports, sends)
+        match self.stations[module as usize].fire(files, fired[module as usize], ports, sends) {
+            Ok(()) => Ok(()),
+            Err(stop) => {
+                self.stopped = true;
+                Err(stop)
+            }
+        }
     }
 }

@@ -1,4 +1,4 @@
-ghost use Rattle.std.specs.Prelude.{◌≡◌, ◌≤◌, ◌++◌, ◌∷◌, [], ℕ, Bool, List, length, slice_index, IfErr, IfOk, IsTrue, OnOk, ◌↔◌};
+ghost use Rattle.std.specs.Prelude.{◌≡◌, ◌≤◌, ◌++◌, ◌∷◌, [], ℕ, Bool, List, length, slice_index, IfErr, IfOk, IsTrue, OnOk, false, ◌↔◌};
 ghost use Rattle.net_ir.specs.States.{IsFinished};
 ghost use Rattle.net_ir.specs.CycleRun.{EndsWith, cycle, fired_among, held_among};
 ghost use Rattle.net_cycles.specs.Between.{between, fired_once};
@@ -28,6 +28,7 @@ impl<U: Unit> Simulation<U> {
     /// firing left and each event of the firing is possible. There is a flag for each module.
     pub fn cycle<F: Files>(&mut self, files: &mut F, stalled: &[bool]) -> Result<CycleCount, Stop>
         requires flags { length stalled.now ≡ length self.old.pipeline.network.modules }
+        requires going { self.old.path.stopped ≡ false }
         requires run { IsRun F.tells (record { value = U.value; place = U.place; step = U.step; count = U.count })
             (settings self.old.path) (F.given files.old) (F.store files.old) self.old.path.stations.items
             self.old.pipeline }
@@ -35,6 +36,8 @@ impl<U: Unit> Simulation<U> {
         ensures run { OnOk result (IsRun F.tells
             (record { value = U.value; place = U.place; step = U.step; count = U.count }) (settings self.new.path)
             (F.given files.new) (F.store files.new) self.new.path.stations.items self.new.pipeline) }
+        ensures going { OnOk result (self.new.path.stopped ≡ false) }
+        ensures kept { OnOk result (F.faults files.new ≡ F.faults files.old) }
         ensures network { self.new.pipeline.network ≡ self.old.pipeline.network }
         ensures firings { self.new.pipeline.firings ≡ self.old.pipeline.firings }
         ensures state { OnOk result (between self.new.pipeline.fired
@@ -53,7 +56,8 @@ impl<U: Unit> Simulation<U> {
             (length self.old.pipeline.network.modules)) }
         ensures onward { Onward F.tells (settings self.old.path) (settings self.new.path) (F.given files.old)
             (F.given files.new) (F.store files.old) (F.store files.new) self.old.path.stations.items
-            self.new.path.stations.items (F.faults files.old) (F.faults files.new) }
+            self.new.path.stations.items (F.faults files.old) (F.faults files.new) self.old.path.stopped
+            self.new.path.stopped }
         // It was met in a firing of this cycle, the last that is counted.
         ensures stopped { IfErr result (λ stop. (fired : List ℕ) × (m : ℕ)
             × FiresAt self.old.pipeline.network self.old.pipeline.firings stalled.now self.old.pipeline.fired fired m

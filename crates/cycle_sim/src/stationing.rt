@@ -262,6 +262,7 @@ impl<U: Unit + Drop> FilePath<U> {
             (length (plain self.old.program).tensors) }
         requires fresh { AreFresh F.tells inputs.now outputs.now (F.given files.now) (F.store files.now) }
         ensures settings { settings self.new ≡ settings self.old }
+        ensures going { self.new.stopped ≡ self.old.stopped }
         ensures ready { OnOk result ((fired : List ℕ)
             → ((m : ℕ) → m < length network.now.modules → slice_index fired m ≡ 0)
             → AreReady F.tells (record { value = U.value; place = U.place; step = U.step; count = U.count })

@@ -1,5 +1,5 @@
 -- One run of firings after another is a run of firings, and what stops the second stops the whole.
-use Rattle.std.proofs.Common.{◌∙◌, ℕ, ◌<◌, ◌≤◌, List, refl, sym, subst, arith}
+use Rattle.std.proofs.Common.{Bool, ◌∙◌, ℕ, ◌<◌, ◌≤◌, List, refl, sym, subst, arith}
 use Rattle.soda_io.specs.Store.{Store}
 use Rattle.cycle_sim.specs.Settings.{Settings}
 use Rattle.cycle_sim.specs.Onward.{Onward}
@@ -10,11 +10,12 @@ use Rattle.cycle_sim.specs.declared.stations.Station.{Station}
 
 -- no firing leads nowhere
 pub first_stays : {U : Type 0} (tells : Type 0) (c : Settings) (given : ℕ) (store : Store) (stations : List (Station U))
-    (faults : ℕ) → Onward tells c c given given store store stations stations faults faults
-first_stays tells c given store stations faults = record {
+    (faults : ℕ) (stopped : Bool) → Onward tells c c given given store store stations stations faults faults stopped stopped
+first_stays tells c given store stations faults stopped = record {
   settings = refl;
   given = refl;
   faults = omega arith;
+  kept = λ e. (e, refl);
   ids = λ m. refl;
   writers = λ m. refl;
   names = λ told. record { name = λ k lt. refl; opened = λ k lt. refl };
@@ -23,12 +24,13 @@ first_stays tells c given store stations faults = record {
 
 -- one run after another
 pub one_follows : {U : Type 0} {tells : Type 0} {c d e : Settings} {g h i : ℕ} {x y z : Store}
-    {before mid after : List (Station U)} {p q r : ℕ} → Onward tells c d g h x y before mid p q
-    → Onward tells d e h i y z mid after q r → Onward tells c e g i x z before after p r
+    {before mid after : List (Station U)} {p q r : ℕ} {j k l : Bool} → Onward tells c d g h x y before mid p q j k
+    → Onward tells d e h i y z mid after q r k l → Onward tells c e g i x z before after p r j l
 one_follows {g = g} {h = h} one two = record {
   settings = two.settings ∙ one.settings;
   given = two.given ∙ one.given;
   faults = omega (arith, one.faults, two.faults);
+  kept = λ e. let last = two.kept e in let first = one.kept last.0 in (first.0, last.1 ∙ first.1);
   ids = λ m. two.ids m ∙ one.ids m;
   writers = λ m. two.writers m ∙ one.writers m;
   names = λ told. record {
