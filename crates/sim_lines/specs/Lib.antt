@@ -1,3 +1,5 @@
 pub mod Limits
 pub mod Stalls
 pub mod Printed
+pub mod Flags
+pub mod Timetable
