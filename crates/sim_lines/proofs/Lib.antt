@@ -1,2 +1,5 @@
 pub mod Progress
+pub mod Counting
+pub mod Cursor
+pub mod Ends
 mod Examples

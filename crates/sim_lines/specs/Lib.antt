@@ -3,3 +3,4 @@ pub mod Stalls
 pub mod Printed
 pub mod Flags
 pub mod Timetable
+pub mod machine
