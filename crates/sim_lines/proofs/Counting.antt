@@ -1,5 +1,5 @@
 -- In how many cycles some module is stalled.
-use Rattle.std.proofs.Common.{◌≡◌, ℕ, zero, suc, ◌+◌, ◌≤◌, Bool, true, false, ◌&&◌, ◌||◌, ◌==◌, cond, List, [], ◌∷◌, length, Option, Some, None, refl, sym, ◌∙◌, ap, arith, ⊎_elim, if◌then◌else◌}
+use Rattle.std.proofs.Common.{◌≡◌, ℕ, zero, suc, ◌+◌, ◌≤◌, Bool, true, false, ◌&&◌, ◌||◌, ◌==◌, cond, List, [], ◌∷◌, length, Option, Some, None, refl, ap, arith, ⊎_elim, if◌then◌else◌}
 use Rattle.std.specs.List.{list_any}
 use Rattle.std.proofs.lemmas.Bool.{and_parts, cases_Bool, eqb-true, false≢true, ne_eqb, or_cases, or_left, or_right}
 use Rattle.std.proofs.lemmas.List.Sums.{sum_by-append}
@@ -23,6 +23,10 @@ flag_listed : (staged : List StagedTensor) (stalls : List Stall) (modules : List
 flag_listed staged stalls [] cycle h = absurd (false≢true h)
 flag_listed staged stalls (x ∷ xs) cycle h =
     ⊎_elim (λ a. end_listed stalls cycle (end_of staged x) a) (λ b. flag_listed staged stalls xs cycle b) (or_cases (is_stalled staged stalls cycle x) (list_any (λ flag. flag) (flags_in staged stalls xs cycle)) h)
+
+-- 1 where it is so
+abbrev one_if : Bool → ℕ
+one_if b = if b then 1 else 0
 
 counted_once : (b c : Bool) → (b ≡ true → c ≡ true) → cond b 1 0 ≤ (if c then 1 else 0)
 counted_once true true h = omega arith
@@ -52,13 +56,13 @@ one_more s ss (suc n) = omega (arith, one_more s ss n, either_counted (s.cycle =
 not_yet : (k n : ℕ) → n ≤ k → count_below (λ cycle. k == cycle) n ≡ 0
 not_yet k zero h = refl
 not_yet k (suc n) h =
-    let off : (if k == n then 1 else 0) ≡ 0 = ap (λ b. if b then 1 else 0) (ne_eqb k n (λ e. absurd (omega arith))) in
+    let off : (if k == n then 1 else 0) ≡ 0 = ap one_if (ne_eqb k n (λ e. absurd (omega arith))) in
     omega (arith, off, not_yet k n (omega arith))
 
 at_most_once : (k n : ℕ) → count_below (λ cycle. k == cycle) n ≤ 1
 at_most_once k zero = omega arith
 at_most_once k (suc n) =
-    ⊎_elim (λ (e : (k == n) ≡ true). let here : k ≡ n = eqb-true k n e in let on : (if k == n then 1 else 0) ≡ 1 = ap (λ b. if b then 1 else 0) e in omega (arith, on, not_yet k n (omega arith))) (λ (e : (k == n) ≡ false). let off : (if k == n then 1 else 0) ≡ 0 = ap (λ b. if b then 1 else 0) e in omega (arith, off, at_most_once k n)) (cases_Bool (k == n))
+    ⊎_elim (λ (e : (k == n) ≡ true). let here : k ≡ n = eqb-true k n e in let on : (if k == n then 1 else 0) ≡ 1 = ap one_if e in omega (arith, on, not_yet k n (omega arith))) (λ (e : (k == n) ≡ false). let off : (if k == n then 1 else 0) ≡ 0 = ap one_if e in omega (arith, off, at_most_once k n)) (cases_Bool (k == n))
 
 -- some stall is listed for no more cycles than there are stalls
 pub listed_few : (stalls : List Stall) (n : ℕ) → count_below (has_stall stalls) n ≤ length stalls

@@ -1,5 +1,5 @@
 -- The flags of a cycle and the stalls of modules, cycle by cycle.
-use Rattle.std.proofs.Common.{◌≡◌, ◌≢◌, ◌<◌, ◌≤◌, ℕ, ◌+◌, ◌-◌, Bool, true, false, ◌&&◌, ◌||◌, ◌==◌, List, [], ◌∷◌, ◌++◌, length, take, drop, set, get_or, refl, sym, ◌∙◌, ap, arith, slice_range, ⊎_elim}
+use Rattle.std.proofs.Common.{◌≡◌, ◌≢◌, ◌<◌, ◌≤◌, ℕ, ◌+◌, ◌-◌, Bool, true, false, ◌&&◌, ◌||◌, ◌==◌, List, [], ◌∷◌, ◌++◌, length, take, drop, set, get_or, refl, sym, ◌∙◌, ap, subst, arith, slice_range, ⊎_elim}
 use Rattle.std.specs.List.{All, AllWithin, HoldsAt, list_any}
 use Rattle.std.specs.List.Sorted.{IsNonDecreasingBy}
 use Rattle.std.proofs.lemmas.Bool.{and_left, cases_eq, cases_lt, eq-eqb, false_from_ne_true, false≢true, ne_eqb, or_right}
@@ -105,3 +105,15 @@ past stalled first end cycle flags at = λ k d low high.
 pub to_come : (stalled : List StalledModule) (first end cycle : ℕ) (flags : List Bool) → IsAt stalled first end cycle flags → AllWithin (λ s. cycle + 1 ≤ s.cycle) stalled end (length stalled)
 to_come stalled first end cycle flags at = λ k d low high.
     let b : cycle < (get_or stalled k d).cycle = at.after k d low high in omega arith
+
+-- the first of these entries, so many, are of a cycle and marked, and the next isn't of it
+abbrev pub AreMarked : (cycle count : ℕ) (flags : List Bool) → (there : List StalledModule) → Type 0
+AreMarked cycle count flags there =
+    (count ≤ length there) × AllWithin (λ s. s.cycle ≡ cycle) there 0 count × (count < length there → HoldsAt (λ s. s.cycle ≢ cycle) there count) × AreSet (take count there) flags
+
+-- one cycle on
+pub advanced : (stalled there : List StalledModule) (first end cycle count : ℕ) (flags marked written : List Bool) → IsAt stalled first end cycle flags → there ≡ drop end stalled → length marked ≡ length flags → written ≡ marked → AreMarked (cycle + 1) count marked there → IsAt stalled end (end + count) (cycle + 1) written
+advanced stalled there first end cycle count flags marked written at rest long same marks =
+    let m = subst (AreMarked (cycle + 1) count marked) rest marks in
+    let known : All (λ s. s.number < length marked) stalled = subst (λ n. All (λ (s : StalledModule). s.number < n) stalled) (sym long) at.known in
+    subst (IsAt stalled end (end + count) (cycle + 1)) (sym same) (at_next stalled end (end + count) (cycle + 1) count marked at.rising known at.within (past stalled first end cycle flags at) (to_come stalled first end cycle flags at) m.0 m.1 m.2 m.3 refl)

@@ -1,10 +1,9 @@
 -- The modules that are ends, and what stalls stall of them.
-use Rattle.std.proofs.Common.{◌≡◌, ◌≢◌, ◌<◌, ◌≤◌, ℕ, zero, suc, ◌+◌, Bool, true, false, ◌&&◌, ◌||◌, ◌==◌, List, [], ◌∷◌, ◌++◌, length, map, slice_get, slice_index_or, get_or, Option, Some, None, refl, sym, ◌∙◌, ap, arith, if◌then◌else◌, ⊎_elim}
+use Rattle.std.proofs.Common.{◌≡◌, ◌≢◌, ◌<◌, ◌≤◌, ℕ, zero, suc, ◌+◌, Bool, true, false, ◌&&◌, ◌||◌, ◌==◌, List, [], ◌∷◌, ◌++◌, length, take, slice_get, slice_index_or, get_or, add-one, Option, Some, None, refl, sym, ◌∙◌, ap, arith, if◌then◌else◌, ⊎_elim}
 use Rattle.std.specs.List.{All, cons_option, filter_map, list_any}
-use Rattle.std.specs.List.Sorted.{IsPermutation}
 use Rattle.std.proofs.lemmas.Bool.{and_right, cases_lt, eq-eqb, ne_eqb}
-use Rattle.std.proofs.lemmas.List.{append-nil, get_or-map, length-map}
-use Rattle.std.proofs.lemmas.List.Elements.{All-append, All-cons, All-head, All-nil, All-tail, All-weaker}
+use Rattle.std.proofs.lemmas.List.{append_assoc, get_or-map, length-map, take_more}
+use Rattle.std.proofs.lemmas.List.Elements.{All-append, All-cons, All-head, All-nil, All-tail, All-weaker, filter_map-append}
 use Rattle.std.proofs.lemmas.List.Folds.{list_any-append, list_any_none}
 use Rattle.std.proofs.lemmas.Option.{slice_get-get_or}
 use Rattle.soda_ir.specs.Points.{listed}
@@ -142,3 +141,30 @@ all_known n ends (s ∷ ss) h =
 pub flags_are : (staged : List StagedTensor) (stalls : List Stall) (modules : List Module) (stalled : List StalledModule) (cycle n : ℕ) → n ≡ length modules → ((m : ℕ) (d : Module) → m < length modules → is_stalled_in stalled cycle m ≡ is_stalled staged stalls cycle (slice_index_or modules m d)) → listed (is_stalled_in stalled cycle) n ≡ flags_in staged stalls modules cycle
 flags_are staged stalls modules stalled cycle n long each =
     sym (known_list (is_stalled_in stalled cycle) n (flags_in staged stalls modules cycle) false (length-map modules (is_stalled staged stalls cycle) ∙ sym long) (λ m h. let few : m < length modules = omega arith in get_or-map (is_stalled staged stalls cycle) modules m (Sink 0) false few ∙ sym (each m (Sink 0) few)))
+
+-- the ends among one module more
+pub ends_more : (staged : List StagedTensor) (modules : List Module) (n : ℕ) (d : Module) (now more : List ModuleEnd) → n < length modules → now ≡ ends_before staged modules n → more ≡ now ++ end_at staged n (get_or modules n d) → more ≡ ends_before staged modules (n + 1)
+unfolding ends_before
+ends_more staged modules n d now more h before step =
+    step
+    ∙ (ap (λ es. es ++ end_at staged n (get_or modules n d)) before
+    ∙ (ap (λ o. ends_before staged modules n ++ added staged n o) (sym (slice_get-get_or modules n d h))
+    ∙ ap (ends_before staged modules) (sym (add-one n))))
+
+pub is_stalled_by : (s : Stall) (e : ModuleEnd) → s.tensor ≡ e.tensor → record { cycle = s.cycle; number = e.number } ∷ [] ≡ cons_option (stalled_by s e) []
+is_stalled_by s e h =
+    ap (λ b. cons_option (if b then Some (record { cycle = s.cycle; number = e.number }) else None) []) (sym (eq-eqb s.tensor e.tensor h))
+
+pub is_passed_by : (s : Stall) (e : ModuleEnd) → s.tensor ≢ e.tensor → [] ≡ cons_option (stalled_by s e) []
+is_passed_by s e h =
+    ap (λ b. cons_option (if b then Some (record { cycle = s.cycle; number = e.number }) else None) []) (sym (ne_eqb s.tensor e.tensor h))
+
+-- what a stall stalls of one end more
+pub stalled_more : (s : Stall) (ends : List ModuleEnd) (i : ℕ) (d : ModuleEnd) (old now more : List StalledModule) → i < length ends → now ≡ old ++ filter_map (stalled_by s) (take i ends) → more ≡ now ++ cons_option (stalled_by s (get_or ends i d)) [] → more ≡ old ++ filter_map (stalled_by s) (take (i + 1) ends)
+stalled_more s ends i d old now more h before step =
+    let all = filter_map (stalled_by s) in
+    let e = get_or ends i d in
+    step
+    ∙ (ap (λ ss. ss ++ all (e ∷ [])) before
+    ∙ (append_assoc old (all (take i ends)) (all (e ∷ []))
+    ∙ ap (λ ss. old ++ ss) (sym (filter_map-append (stalled_by s) (take i ends) (e ∷ [])) ∙ ap all (sym (take_more ends i d h)))))

@@ -42,10 +42,10 @@ fn add_end(
 ) -> Result<(), NoMemory>
     ensures { OnOk result (ends.new.items ≡ ends.old.items ++ end_at staged.now number «module») }
 {
-    match end_of(staged, module) {
-        Some(tensor) => ends.push(ModuleEnd { tensor, number }),
-        None => Ok(()),
+    if let Some(tensor) = end_of(staged, module) {
+        ends.push(ModuleEnd { tensor, number })?;
     }
+    Ok(())
 }
 
 // The ends among modules.

@@ -1,4 +1,4 @@
-use Rattle.std.proofs.Common.{suc, ap, add-one}
+use Rattle.std.proofs.Common.{ap, add-one}
 use Rattle.std.proofs.lemmas.List.{length-map}
 use Rattle.soda_ir.proofs.CallerLemmas.{length-listed}
 use Rattle.sim_lines.specs.Flags.{flags_in, flags_until, is_stalled}
