@@ -1,5 +1,5 @@
 -- The modules of a run stand ready before its first cycle, where its files are fresh.
-use Rattle.std.proofs.Common.{◌≡◌, ◌≢◌, ℕ, ◌<◌, ◌≤◌, List, [], length, take, slice_index, Some, sym, ap, subst, ◌∙◌, ⊎_elim}
+use Rattle.std.proofs.Common.{◌≡◌, ◌≢◌, ℕ, ◌<◌, ◌≤◌, List, [], length, take, slice_index, Some, sym, ap, subst, ◌∙◌, arith, ⊎_elim}
 use Rattle.std.proofs.lemmas.Bool.{cases_lt}
 use Rattle.std.proofs.lemmas.Option.{none-some, same_Some}
 use Rattle.std.proofs.lemmas.List.{get_or_past}
@@ -14,6 +14,7 @@ use Rattle.staged_cells.specs.Sends.{output_of}
 use Rattle.staged_cells.specs.Streams.{module_at}
 use Rattle.cycle_sim.specs.Settings.{IsSettings, Settings, array_cells, array_over, net_in}
 use Rattle.cycle_sim.specs.Stations.{AreApart, AreReady, SinkAt, SourceAt, StationAt, Units, id_of, read_id, station_at, write_id, written_by}
+use Rattle.cycle_sim.specs.Handles.{HaveHandles, handle_of}
 use Rattle.cycle_sim.specs.Fresh.{AreFresh, IsNew, IsNewSink, IsNewSource}
 use Rattle.cycle_sim.specs.declared.stations.SourceStation.{SourceStation}
 use Rattle.cycle_sim.specs.declared.stations.SinkStation.{SinkStation}
@@ -36,6 +37,7 @@ module _ {U : Type 0} (tells : Type 0) (units : Units U) (c : Settings) (inputs 
     fine = is.fine;
     done = is.done;
     count = is.count ∙ sym (begins_with_none s.reads.unroll s.reads.delay (kind s.reads.reader).cells);
+    good = λ told. omega (arith, begins_with_none s.reads.unroll s.reads.delay (kind s.reads.reader).cells);
     stands = λ told. stands_first s.reads.reader store (slice_index inputs s.input) is.id (fresh.unread told s.input is.there) is.stands;
   }
 
@@ -138,3 +140,17 @@ module _ {U : Type 0} (tells : Type 0) (units : Units U) (c : Settings) (inputs 
           (station_begins stations m (module_at (net_in c) m) (station_at stations m) (new m lt));
       apart = begin_apart;
     }
+
+    -- each works with the file of its input or output
+    handles : (m : ℕ) (kind : Module) (a : Station U) → IsNew units c inputs outputs m kind a
+        → id_of a ≡ handle_of c inputs outputs kind
+    handles m kind (station.Source s) is =
+        ap Some (is.3.id ∙ ap (slice_index inputs) is.2.input) ∙ sym (ap (handle_of c inputs outputs) is.1)
+    handles m kind station.Forward is = sym (ap (handle_of c inputs outputs) is.3)
+    handles m kind (station.Compute u) is = sym (ap (handle_of c inputs outputs) is.2)
+    handles m kind (station.Sink s) is =
+        ap Some (is.3.id ∙ ap (slice_index outputs) is.2.number) ∙ sym (ap (handle_of c inputs outputs) is.1)
+
+    pub begin_handles : HaveHandles c inputs outputs stations
+    begin_handles m lt =
+        handles m (module_at (net_in c) m) (station_at stations m) (new m (subst (λ n. m < n) (sym whole) lt))

@@ -1,13 +1,14 @@
 -- Behind a firing of one module the others stand as they stood.
-use Rattle.std.proofs.Common.{◌≡◌, ◌≢◌, ℕ, ◌+◌, ◌<◌, List, length, slice_index, Some, refl, sym, ap, subst, ◌∙◌, arith, ⊎_elim, get_or-set_same, get_or-set_other, length-set}
+use Rattle.std.proofs.Common.{◌≡◌, ◌≢◌, ℕ, ◌+◌, ◌<◌, ◌≤◌, List, length, slice_index, Some, refl, sym, ap, subst, ◌∙◌, arith, ⊎_elim, get_or-set_same, get_or-set_other, length-set}
 use Rattle.std.proofs.lemmas.Bool.Decides.{eqb_tells}
 use Rattle.std.proofs.lemmas.Option.{none-some}
 use Rattle.soda_io.specs.Store.{Store, content}
+use Rattle.bursts.specs.Blocks.{cells_in}
 use Rattle.bursts.specs.Readers.{StandsAt, kind}
 use Rattle.net_cycles.specs.Between.{fired_once}
 use Rattle.net_ir.specs.declared.network.Module.{Module}
 use Rattle.staged_cells.specs.Streams.{module_at}
-use Rattle.file_modules.specs.Modules.{Sink, Source}
+use Rattle.file_modules.specs.Modules.{Sink, Source, read_before, source}
 use Rattle.cycle_sim.specs.Settings.{Settings, net_in}
 use Rattle.cycle_sim.specs.Stations.{AreApart, AreReady, SinkAt, SourceAt, StationAt, Units, id_of, read_id, station_at, write_id, written_by}
 use Rattle.cycle_sim.specs.machine.Firings.{GoesOn, Moves, Spares}
@@ -26,6 +27,9 @@ source_kept tells given old new k s spare at = record {
   fine = at.fine;
   done = at.done;
   count = at.count;
+  good = λ told.
+      let bytes : content new (read_id s) ≡ content old (read_id s) = same_content old new (read_id s) (spare told) in
+      subst (λ b. read_before (source s.reads) k ≤ length (cells_in (kind s.reads.reader) b)) (sym bytes) (at.good told);
   stands = λ told.
       let d = spare told in
       let bytes : content new (read_id s) ≡ content old (read_id s) = same_content old new (read_id s) d in

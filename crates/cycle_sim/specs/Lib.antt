@@ -8,3 +8,4 @@ pub mod machine
 pub mod Running
 pub mod Fresh
 pub mod Ends
+pub mod Handles

@@ -40,13 +40,15 @@ good_in store s = cells_in (kind s.reads.reader) (content store (read_id s))
 abbrev pub was_read : SourceStation → ℕ
 was_read s = read_before (source s.reads) s.done
 
--- A source that has fired so many times stands in its file behind the cells of these firings, and met no fault.
+-- A source that has fired so many times stands in its file behind the cells of these firings, which are good, and met
+-- no fault.
 pub record SourceAt (tells : Type 0) (given : ℕ) (store : Store) (firing : ℕ) (s : SourceStation) : Type 0 where
   pub known : read_id s < given
   pub opened : tells → store.opened (read_id s) ≡ true
   pub fine : s.reads.reader.fault ≡ None
   pub done : s.done ≡ firing
   pub count : given_by s.reads.reader ≡ read_before (source s.reads) firing
+  pub good : tells → read_before (source s.reads) firing ≤ length (good_in store s)
   pub stands : tells → StandsAt s.reads.reader (content store (read_id s)) (store.place (read_id s))
 
 -- what a source of a staged input was made for, at module m

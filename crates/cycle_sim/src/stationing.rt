@@ -5,6 +5,7 @@ ghost use Rattle.net_ir.specs.declared.network.Module.TheVariants.{Compute, Sink
 ghost use Rattle.time_stages.specs.Staged.{staged};
 ghost use Rattle.staged_cells.specs.Streams.{module_at};
 ghost use Rattle.cycle_sim.specs.Fresh.{AreFresh, AreNew, IsNew, IsNewSink, IsNewSource};
+ghost use Rattle.cycle_sim.specs.Handles.{HaveHandles};
 ghost use Rattle.cycle_sim.specs.Paths.{settings};
 ghost use Rattle.cycle_sim.specs.Settings.{IsSettings, array_cells, net_in};
 ghost use Rattle.cycle_sim.specs.Stations.{AreReady, IsSinkOf, IsSourceOf, UnitAt};
@@ -263,6 +264,8 @@ impl<U: Unit + Drop> FilePath<U> {
         requires fresh { AreFresh F.tells inputs.now outputs.now (F.given files.now) (F.store files.now) }
         ensures settings { settings self.new ≡ settings self.old }
         ensures going { self.new.stopped ≡ self.old.stopped }
+        ensures handles { OnOk result (HaveHandles (settings self.new) inputs.now outputs.now
+            self.new.stations.items) }
         ensures ready { OnOk result ((fired : List ℕ)
             → ((m : ℕ) → m < length network.now.modules → slice_index fired m ≡ 0)
             → AreReady F.tells (record { value = U.value; place = U.place; step = U.step; count = U.count })

@@ -11,7 +11,7 @@ use Rattle.ring_region.specs.Fifos.{Fifo, emptied, fifo_at}
 use Rattle.net_cycles.specs.Between.{whole, between, takes}
 use Rattle.net_cycles.specs.Streams.{Streams, HoldCounts, HoldStreams}
 
-get_or-zeros : (n x : ℕ) → get_or (replicate {A = ℕ} n 0) x 0 ≡ 0
+pub get_or-zeros : (n x : ℕ) → get_or (replicate {A = ℕ} n 0) x 0 ≡ 0
 get_or-zeros zero x = refl
 get_or-zeros (suc n) zero = refl
 get_or-zeros (suc n) (suc x) = get_or-zeros n x

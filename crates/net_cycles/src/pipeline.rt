@@ -1,4 +1,4 @@
-ghost use Rattle.std.specs.Prelude.{◌≡◌, ◌<◌, ◌≤◌, ◌↔◌, ◌^◌, ◌++◌, ◌∷◌, [], ◌&&◌, not, ℕ, ℤ, Bool, List, map, sum, length, if◌then◌else◌, IfErr, IfOk, IsTrue, OnOk};
+ghost use Rattle.std.specs.Prelude.{◌≡◌, ◌<◌, ◌≤◌, ◌↔◌, ◌^◌, ◌++◌, ◌∷◌, [], ◌&&◌, not, ℕ, ℤ, Bool, List, map, sum, length, slice_index, if◌then◌else◌, IfErr, IfOk, IsTrue, OnOk};
 ghost use Rattle.net_ir.specs.Nets.{queue_at};
 ghost use Rattle.net_ir.specs.States.{zeros, has_firing, IsFinished, IsLawful};
 ghost use Rattle.net_ir.specs.CycleRun.{fires, visit, cycle, fired_among, held_among, EndsWith};
@@ -49,14 +49,14 @@ impl Model for Pipeline {
 
 impl Pipeline {
     /// The state of zeros, where a module of age 0 has this many firings and each other its age less. Each queue holds
-    /// nothing and can hold something; together they can hold fewer than 2^60 items. No other call takes memory.
+    /// nothing and can hold something. No other call takes memory.
     pub fn new(alloc: Global, network: Network, firings: u64) -> Result<Pipeline, NoMemory>
         requires positive { (queue : ℕ) → queue < length network.queues
             → 0 < (queue_at network.queues queue).capacity }
-        requires small { sum (map (λ q. q.capacity) network.queues) < 2 ^ 60 }
         ensures network { IfOk result (λ p. p.network ≡ network) }
         ensures firings { IfOk result (λ p. p.firings ≡ firings) }
         ensures zeros { IfOk result (λ p. between p.fired ≡ zeros network) }
+        ensures unfired { IfOk result (λ p. (m : ℕ) → slice_index p.fired m ≡ 0) }
         ensures run { IfOk result (λ p. HasRun network firings [] p.fired) }
         ensures streams { IfOk result (λ p. (stream : ℕ → ℕ → ℤ) → HoldStreams network p.fired p.fifos stream) }
     {

@@ -29,16 +29,18 @@ impl Model for Rings {
 }
 
 impl Rings {
-    /// Empty queues of these capacities, each at least 1, together fewer than 2^60. No other call takes memory.
+    /// Empty queues of these capacities, each at least 1. Where no memory is so large as to hold them all together, it is
+    /// refused. No other call takes memory.
     pub fn new(alloc: Global, capacities: &[u64]) -> Result<Rings, NoMemory>
         requires positive { All (λ c. 0 < c) capacities.now }
-        requires small { sum capacities.now < 2 ^ 60 }
         ensures { IfOk result (λ rings. rings ≡ map emptied capacities.now) }
     {
         let mut parts = Vec::new(alloc);
-        let mut total = 0;
+        let mut total: usize = 0;
         for capacity in capacities {
-            let end = total + *capacity as usize;
+            let Some(end) = total.checked_add(*capacity as usize) else {
+                return Err(NoMemory);
+            };
             parts.push(Part {
                 begin: total,
                 end,

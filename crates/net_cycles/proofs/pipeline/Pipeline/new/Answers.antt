@@ -1,4 +1,4 @@
-use Rattle.std.proofs.Common.{◌≡◌, ◌∙◌, ℕ, List, length, map, pos, replicate, sym, ap, subst, rules}
+use Rattle.std.proofs.Common.{◌≡◌, ◌∙◌, ℕ, List, length, map, pos, replicate, slice_index, sym, ap, subst, rules}
 use Rattle.std.proofs.lemmas.List.{length-replicate}
 use Rattle.net_ir.specs.declared.network.Queue.{Queue}
 use Rattle.net_ir.specs.States.{IsLawful}
@@ -7,7 +7,7 @@ use Rattle.ring_region.specs.Fifos.{emptied}
 use Rattle.net_cycles.specs.Between.{between}
 use Rattle.net_cycles.specs.Streams.{HoldCounts}
 use Rattle.net_cycles.proofs.Runs.{run_none}
-use Rattle.net_cycles.proofs.Start.{zeros_between, counts_at_start, streams_at_start}
+use Rattle.net_cycles.proofs.Start.{get_or-zeros, zeros_between, counts_at_start, streams_at_start}
 use Rattle.net_cycles.proofs.pipeline.Pipeline.new.Goals as goal
 
 pub returns-clause-zeros : goal.returns-clause-zeros
@@ -15,6 +15,12 @@ returns-clause-zeros c =
     let unfired : c.in_ok-fired.fired.items ≡ replicate {A = ℕ} (length c.args.network.modules) 0 =
     c.in_ok-fired.ensures.items_if_clones_equal (λ y e. e) ∙ ap (λ n. replicate {A = ℕ} n 0) (ap length c.modules.ensures.value) in
     ap between unfired ∙ zeros_between c.args.network
+
+pub returns-clause-unfired : goal.returns-clause-unfired
+returns-clause-unfired c m =
+    let unfired : c.in_ok-fired.fired.items ≡ replicate {A = ℕ} (length c.args.network.modules) 0 =
+    c.in_ok-fired.ensures.items_if_clones_equal (λ y e. e) ∙ ap (λ n. replicate {A = ℕ} n 0) (ap length c.modules.ensures.value) in
+    ap (λ (xs : List ℕ). slice_index xs m) unfired ∙ get_or-zeros (length c.args.network.modules) m
 
 pub returns-clause-run : goal.returns-clause-run
 returns-clause-run c =
