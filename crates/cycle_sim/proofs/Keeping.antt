@@ -11,6 +11,7 @@ use Rattle.staged_cells.specs.Streams.{module_at}
 use Rattle.file_modules.specs.Modules.{Sink, Source, read_before, source}
 use Rattle.cycle_sim.specs.Settings.{Settings, net_in}
 use Rattle.cycle_sim.specs.Stations.{AreApart, AreReady, SinkAt, SourceAt, StationAt, Units, id_of, read_id, station_at, write_id, written_by}
+use Rattle.cycle_sim.specs.Using.{read_by}
 use Rattle.cycle_sim.specs.machine.Firings.{GoesOn, Moves, Spares}
 use Rattle.cycle_sim.specs.declared.stations.SourceStation.{SourceStation}
 use Rattle.cycle_sim.specs.declared.stations.SinkStation.{SinkStation}
@@ -74,6 +75,12 @@ module _ {U : Type 0} (tells : Type 0) (given : ℕ) (old new : Store) (before a
   same_writer (station.Compute u) b on = ap written_by on.1
   same_writer (station.Sink s) b on = ap written_by on.1 ∙ ap (λ (x : Sink). Some x.output.id) on.2
 
+  same_reader : (a b : Station U) → GoesOn a b → read_by b ≡ read_by a
+  same_reader (station.Source s) b on = ap read_by on.1 ∙ ap (λ (x : Source). Some x.kind.id) on.2
+  same_reader station.Forward b on = ap read_by on
+  same_reader (station.Compute u) b on = ap read_by on.1
+  same_reader (station.Sink s) b on = ap read_by on.1
+
   pub ids_stay : (n : ℕ) → id_of (station_at after n) ≡ id_of (station_at before n)
   ids_stay n =
       ⊎_elim
@@ -88,6 +95,14 @@ module _ {U : Type 0} (tells : Type 0) (given : ℕ) (old new : Store) (before a
       (λ found. ap (λ i. written_by (station_at after i)) found.1 ∙ ap written_by (there tells given old new before after m moves)
       ∙ same_writer (station_at before m) moves.is moves.on ∙ ap (λ i. written_by (station_at before i)) (sym found.1))
       (λ found. ap written_by (other tells given old new before after m moves n found.1))
+      (eqb_tells n m)
+
+  pub readers_stay : (n : ℕ) → read_by (station_at after n) ≡ read_by (station_at before n)
+  readers_stay n =
+      ⊎_elim
+      (λ found. ap (λ i. read_by (station_at after i)) found.1 ∙ ap read_by (there tells given old new before after m moves)
+      ∙ same_reader (station_at before m) moves.is moves.on ∙ ap (λ i. read_by (station_at before i)) (sym found.1))
+      (λ found. ap read_by (other tells given old new before after m moves n found.1))
       (eqb_tells n m)
 
   name_stays : tells → (n i : ℕ) → id_of (station_at before n) ≡ Some i → new.name i ≡ old.name i

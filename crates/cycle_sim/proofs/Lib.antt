@@ -6,6 +6,8 @@ pub mod Ranges
 pub mod Moving
 pub mod Leaving
 pub mod Keeping
+pub mod Asked
+pub mod Touched
 pub mod After
 pub mod Passing
 pub mod Stopping
@@ -14,3 +16,4 @@ pub mod Run
 pub mod Beginning
 pub mod EndsOfRuns
 pub mod NewStations
+pub mod EndsInOrder

@@ -20,9 +20,9 @@ use Rattle.cycle_sim.specs.declared.stations.Station.{Station}
 use Rattle.cycle_sim.specs.declared.stations.Station.TheVariants as station
 
 -- an id of another module is spared
-pub spared : {U : Type 0} (given : ℕ) (old new : Store) (a : Station U) → Touches given old new a → (i : ℕ) → i < given → id_of a ≢ Some i
+pub spared : {U : Type 0} (given : ℕ) (old new : Store) (a b : Station U) (fails : Type 0) → Touches given old new a b fails → (i : ℕ) → i < given → id_of a ≢ Some i
     → ((j : ℕ) → written_by a ≡ Some j → old.name i ≢ old.name j) → Spares old new i
-spared given old new a touch i lt ne apart = record {
+spared given old new a b fails touch i lt ne apart = record {
   name = touch.ids.name i lt;
   opened = touch.ids.opened i lt;
   place = touch.places i lt ne;
@@ -105,15 +105,15 @@ module _ {U : Type 0} (tells : Type 0) (units : Units U) (c : Settings) (given :
       (cases_lt n (length stations))
 
   -- a firing among the others
-  unfoldable pub moves : (m : ℕ) (is : Station U) (new : Store) → m < length stations → GoesOn (station_at stations m) is
-      → (tells → Touches given store new (station_at stations m)) → Moves tells given store new stations (slice_set stations m is) m
-  moves m is new lt on touch = record {
+  unfoldable pub moves : (m : ℕ) (is : Station U) (new : Store) (fails : Type 0) → m < length stations → GoesOn (station_at stations m) is
+      → (tells → Touches given store new (station_at stations m) is fails) → Moves tells given store new stations (slice_set stations m is) m
+  moves m is new fails lt on touch = record {
     known = lt;
     is = is;
     set = refl;
     on = on;
     others = λ told n i ne e.
-        spared given store new (station_at stations m) (touch told) i (known_id n i e)
+        spared given store new (station_at stations m) is fails (touch told) i (known_id n i e)
         (λ own. ready.apart.ids m n i i (λ same. ne (sym same)) own e refl)
         (λ j w. ready.apart.names told m n j i (λ same. ne (sym same)) w e);
     own = λ told i e. ((touch told).ids.name i (known_id m i e), (touch told).ids.opened i (known_id m i e));

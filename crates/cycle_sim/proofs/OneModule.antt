@@ -36,13 +36,18 @@ pub module_there : (p : Plan) (m : ℕ) (d is : Module) → m < length (network_
 module_there p m d is lt same =
     subst (λ ys. Contains ys is) (modules_are p) (subst (Contains (network_of p).modules) same (Contains-get_or (network_of p).modules m d lt))
 
+-- a module has its number
+pub number_at : (p : Plan) → Numbering p → (m : ℕ) (d is : Module) → m < length (network_of p).modules
+    → get_or (network_of p).modules m d ≡ is → number_of p is ≡ m
+number_at p numbers m d is lt same =
+    ap (number_of p) (sym same ∙ ap (λ ys. get_or ys m d) (modules_are p)) ∙ numbers m d (subst (λ ys. m < length ys) (modules_are p) lt)
+
 -- of modules that stand in firing order each has its number
 pub one_place : (p : Plan) → Numbering p → (m n : ℕ) (d : Module) → m < length (network_of p).modules → n < length (network_of p).modules
     → get_or (network_of p).modules m d ≡ get_or (network_of p).modules n d → m ≡ n
 one_place p numbers m n d lt within same =
-    sym (numbers m d (subst (λ ys. m < length ys) (modules_are p) lt))
-    ∙ ap (number_of p) (sym (ap (λ ys. get_or ys m d) (modules_are p)) ∙ same ∙ ap (λ ys. get_or ys n d) (modules_are p))
-    ∙ numbers n d (subst (λ ys. n < length ys) (modules_are p) within)
+    sym (number_at p numbers m d (get_or (network_of p).modules n d) lt same)
+    ∙ number_at p numbers n d (get_or (network_of p).modules n d) within refl
 
 -- what an output of the last iteration is
 last_output : (input output last : Bool) → (if input then kind.Input else (if output && last then kind.Output else kind.Inner)) ≡ kind.Output

@@ -1,5 +1,6 @@
 -- A firing of one module of a run: what it leaves of the whole.
-use Rattle.std.proofs.Common.{◌≡◌, ℕ, ◌<◌, ◌≤◌, ◌^◌, Bool, false, List, Some, length, slice_index, slice_set, length-set, refl, sym, ap, subst, ◌∙◌, arith, ℤ}
+use Rattle.std.proofs.Common.{◌≡◌, ℕ, ◌<◌, ◌≤◌, ◌^◌, Bool, true, false, List, Some, length, slice_index, slice_set, length-set, refl, sym, ap, subst, ◌∙◌, arith, ℤ}
+use Rattle.std.proofs.lemmas.Bool.{false≢true}
 use Rattle.int_types.specs.Ranges.{InRange}
 use Rattle.soda_io.specs.Store.{Store}
 use Rattle.net_ir.specs.Nets.{Net, entrances, exits}
@@ -14,13 +15,15 @@ use Rattle.cycle_sim.specs.Sends.{SendsBy, exit_lanes}
 use Rattle.cycle_sim.specs.Stations.{AgreesWith, AreBegun, AreReady, IsSinkOf, StationAt, Units, station_at, written_by}
 use Rattle.cycle_sim.specs.Onward.{Onward}
 use Rattle.cycle_sim.specs.Stopped.{IsStopped}
-use Rattle.cycle_sim.specs.machine.Firings.{Fired, GoesOn, MayFire, Moves, Stops, Touches}
+use Rattle.cycle_sim.specs.Using.{Ends, IsFailedCall}
+use Rattle.cycle_sim.specs.machine.Firings.{Fired, GoesOn, MayFire, Moves, Stops, Touches, done_of}
 use Rattle.cycle_sim.specs.declared.stop.Stop.{Stop}
 use Rattle.cycle_sim.specs.declared.stations.SinkStation.{SinkStation}
 use Rattle.cycle_sim.specs.declared.stations.Station.{Station}
 use Rattle.cycle_sim.specs.declared.stations.Station.TheVariants as station
 use Rattle.cycle_sim.proofs.After.{HandsOn, station_after}
-use Rattle.cycle_sim.proofs.Keeping.{ids_stay, ready_after, writer_id, writers_stay}
+use Rattle.cycle_sim.proofs.Asked.{ends_of, uses_of}
+use Rattle.cycle_sim.proofs.Keeping.{ids_stay, readers_stay, ready_after, writer_id, writers_stay}
 use Rattle.cycle_sim.proofs.Moving.{begun_before, known_id, moves}
 use Rattle.cycle_sim.proofs.Passing.{hands, may_fire, sends_by}
 use Rattle.cycle_sim.proofs.Stopping.{was_stopped}
@@ -57,15 +60,18 @@ module _ {U : Type 0} (tells : Type 0) (units : Units U) (c : Settings) (given :
       (subst (StationAt tells units c given old stations m k (module_at (net_in c) m)) is (ready.each m there_is)) small
       (p ∙ ap (λ n. length (entrances n m)) same) (q ∙ ap (λ n. length (exits n m)) same)
 
-  module _ (new : Store) (a is : Station U) (was : station_at stations m ≡ a) (on : GoesOn a is)
-      (touch : tells → Touches given old new a) where
+  module _ (new : Store) (a is : Station U) (fails : Type 0) (was : station_at stations m ≡ a) (on : GoesOn a is)
+      (touch : tells → Touches given old new a is fails) where
     abbrev pub after : List (Station U)
     after = slice_set stations m is
 
     abbrev pub the_moves : Moves tells given old new stations after m
     the_moves =
-        moves tells units c given old stations fired ready m is new there_is (subst (λ b. GoesOn b is) (sym was) on)
-        (λ told. subst (Touches given old new) (sym was) (touch told))
+        moves tells units c given old stations fired ready m is new fails there_is (subst (λ b. GoesOn b is) (sym was) on)
+        (λ told. subst (λ b. Touches given old new b is fails) (sym was) (touch told))
+
+    touched : tells → Touches given old new (station_at stations m) is fails
+    touched told = subst (λ b. Touches given old new b is fails) (sym was) (touch told)
 
     -- the streams that agree agreed before
     pub agrees_before : (stream : ℕ → ℕ → ℤ) → AgreesWith tells c new after stream → AgreesWith tells c old stations stream
@@ -78,15 +84,18 @@ module _ {U : Type 0} (tells : Type 0) (units : Units U) (c : Settings) (given :
     }
 
     -- what changed
-    pub goes_onward : (p q : ℕ) (once now : Bool) → p ≤ q → (now ≡ false → (once ≡ false) × (q ≡ p))
-        → Onward tells c c given given old new stations after p q once now
-    goes_onward p q once now later kept = record {
+    pub goes_onward : (p q : ℕ) (once now : Bool) → p ≤ q → (now ≡ false → (once ≡ false) × (q ≡ p)) → once ≡ false
+        → (fails → now ≡ true) → Onward tells c c given given old new stations after p q once now
+    unfolding moves
+    goes_onward p q once now later kept begins stops = record {
       settings = refl;
       given = refl;
       faults = later;
       kept = kept;
+      stays = λ e. absurd (false≢true (sym begins ∙ e));
       ids = ids_stay tells given old new stations after m the_moves;
       writers = writers_stay tells given old new stations after m the_moves;
+      readers = readers_stay tells given old new stations after m the_moves;
       names = λ told. (touch told).ids;
       bytes = λ told name spared.
           (touch told).bytes name
@@ -94,6 +103,8 @@ module _ {U : Type 0} (tells : Type 0) (units : Units U) (c : Settings) (given :
           let own : written_by (station_at stations m) ≡ Some i = ap written_by was ∙ writes in
           spared m i (known_id tells units c given old stations fired ready m i
           (writer_id tells given old new stations after m the_moves (station_at stations m) i own)) own);
+      uses = λ told. uses_of tells given old new stations after m the_moves fails (touched told) once now begins stops
+          (λ n i j ne e f. ready.apart.ids n m i j ne e f);
     }
 
     module _ (ports sends : List ℤ) (found : (stream : ℕ → ℕ → ℤ) → AgreesWith tells c old stations stream → ports ≡ port_values net stream m k) where
@@ -144,8 +155,11 @@ module _ {U : Type 0} (tells : Type 0) (units : Units U) (c : Settings) (given :
           (hands_on taking ranging) (fired_there fire))
 
       -- what holds where it was stopped
-      pub stopped_there : Taking → Ranging → (p q : ℕ) (stop : Stop) → Stops tells old new p q k ports a stop
-          → IsStopped tells c new after p q m k stop
-      stopped_there taking ranging p q stop stops =
+      pub stopped_there : Taking → Ranging → (p q : ℕ) (once : Bool) → once ≡ false → (stop : Stop) → IsFailedCall stop ≡ fails
+          → done_of is ≡ done_of a → Stops tells old new p q k ports a stop → IsStopped tells c once old new after p q m k stop
+      unfolding moves
+      stopped_there taking ranging p q once begins stop same_fails still stops =
           was_stopped tells given old new stations after m k p q the_moves ports units c fired refl ready (length-set stations m is)
-          (hands_on taking ranging) stop (subst (λ b. Stops tells old new p q k ports b stop) (sym was) stops)
+          (hands_on taking ranging) once begins stop
+          (λ i e told. subst (Ends old new i) (sym same_fails) (ends_of tells given old new stations after m the_moves fails (touched told) i e))
+          (still ∙ ap done_of (sym was)) (subst (λ b. Stops tells old new p q k ports b stop) (sym was) stops)

@@ -1,6 +1,7 @@
 pub mod Settings
 pub mod Sends
 pub mod Stations
+pub mod Using
 pub mod Stopped
 pub mod Onward
 pub mod Paths

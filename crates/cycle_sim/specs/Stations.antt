@@ -1,5 +1,5 @@
 -- How the modules of a run stand: to their files, and to what they have done.
-use Rattle.std.specs.Prelude.{◌≡◌, ◌≢◌, ℕ, ◌<◌, true, false, All, List, [], ℤ, length, take, slice_index, slice_index_or, None, Some, Option}
+use Rattle.std.specs.Prelude.{◌≡◌, ◌≢◌, ℕ, ◌<◌, ◌≤◌, true, false, All, List, [], ℤ, length, take, slice_index, slice_index_or, None, Some, Option}
 use Rattle.soda_io.specs.Store.{Store, content}
 use Rattle.bursts.specs.Blocks.{cells_in}
 use Rattle.bursts.specs.Readers.{StandsAt, given_by, kind}

@@ -5,7 +5,7 @@ ghost use Rattle.time_stages.specs.declared.staging.StagedTensor.{StagedTensor};
 ghost use Rattle.time_stages.specs.Staged.{staged_tensors};
 ghost use Rattle.cycle_sim.specs.Ends.{AreWhole};
 ghost use Rattle.int_types.specs.Ranges.{InRange};
-ghost use Rattle.net_ir.specs.Nets.{entrances, exits};
+ghost use Rattle.net_ir.specs.Nets.{entrances, exits, queue_at};
 ghost use Rattle.net_ir.specs.declared.network.Module.TheVariants.{Compute, Sink, Source};
 ghost use Rattle.net_cycles.specs.Streams.{port_values, sent_values};
 ghost use Rattle.soda_ir.specs.Points.{listed};
@@ -96,4 +96,23 @@ pub fn modules_of_a_run_have_ends()
     inputs_are_staged_first();
     staged_tensors_keep_margins();
     ports_are_of_reads();
+}
+
+/// Each queue of a run can hold something.
+pub fn queues_of_a_run_have_room()
+    ensures { (c : Settings) (queue : ℕ) → IsSettings c → queue < length (net_in c).queues
+        → 0 < (queue_at (net_in c).queues queue).capacity }
+{
+    programs_have_plans();
+    networks_fit();
+}
+
+/// The sources of a run stand in the order of their inputs.
+pub fn sources_of_a_run_stand_in_order()
+    ensures { (c : Settings) (m n v w : ℕ) → IsSettings c → m < length (net_in c).modules
+        → n < length (net_in c).modules → module_at (net_in c) m ≡ Source v → module_at (net_in c) n ≡ Source w
+        → v < w → m < n }
+{
+    programs_have_plans();
+    modules_are_numbered();
 }

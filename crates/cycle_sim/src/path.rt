@@ -29,7 +29,7 @@ pub struct FilePath<U> {
     pub(crate) run: u64,
     pub(crate) stations: Vec<Station<U>>,
     // A firing was stopped.
-    stopped: bool,
+    pub(crate) stopped: bool,
 }
 
 impl<U> FilePath<U> {
@@ -44,7 +44,7 @@ impl<U> FilePath<U> {
         form: Form,
         run: u64,
     ) -> FilePath<U>
-        ensures { settings result ≡ record {
+        ensures settings { settings result ≡ record {
           program = plain program;
           delays = delays.items;
           rows = rows;
@@ -52,6 +52,7 @@ impl<U> FilePath<U> {
           form = form;
           run = run;
         } }
+        ensures going { result.stopped ≡ false }
     {
         FilePath {
             program,
@@ -82,15 +83,15 @@ impl<F: Files, U: Unit> Datapath<F> for FilePath<U> {
         (F.store files) (F.store later) d.stations.items e.stations.items (F.faults files) (F.faults later) d.stopped
         e.stopped };
 
-    ghost stopped = { λ d files e later net fired m stop. IsStopped F.tells (settings e) (F.store later)
-        e.stations.items (F.faults files) (F.faults later) m (slice_index fired m) stop };
+    ghost stopped = { λ d files e later net fired m stop. IsStopped F.tells (settings e) d.stopped (F.store files)
+        (F.store later) e.stations.items (F.faults files) (F.faults later) m (slice_index fired m) stop };
 
     ghost stays = { λ d files. first_stays F.tells (settings d) (F.given files) (F.store files) d.stations.items
         (F.faults files) d.stopped };
 
     ghost follows = { λ a b c x y z one two. one_follows one two };
 
-    ghost since = { λ a b c x y z net fired m stop one two. stopped_since one.faults two };
+    ghost since = { λ a b c x y z net fired m stop one two. stopped_since one two };
 
     fn fire(
         &mut self,

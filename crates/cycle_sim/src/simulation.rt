@@ -1,26 +1,91 @@
 ghost use Rattle.std.specs.Prelude.{◌≡◌, ◌≤◌, ◌++◌, ◌∷◌, [], ℕ, Bool, List, length, slice_index, IfErr, IfOk, IsTrue, OnOk, false, ◌↔◌};
+ghost use Rattle.soda_ir.specs.Counts.{count_below, is_output};
+ghost use Rattle.soda_ir.specs.Program.{input_types, plain};
+ghost use Rattle.time_stages.specs.Staged.{staged};
+ghost use Rattle.net_build.specs.Limits.{greatest_delay, most_delay};
 ghost use Rattle.net_ir.specs.States.{IsFinished};
 ghost use Rattle.net_ir.specs.CycleRun.{EndsWith, cycle, fired_among, held_among};
 ghost use Rattle.net_cycles.specs.Between.{between, fired_once};
 ghost use Rattle.net_cycles.specs.Cycles.{FiresAt, HasRun};
 ghost use Rattle.net_cycles.specs.Holdings.{held_below, storage_below};
+ghost use Rattle.cycle_sim.specs.Fresh.{AreFresh};
+ghost use Rattle.cycle_sim.specs.Handles.{HaveHandles};
 ghost use Rattle.cycle_sim.specs.Onward.{Onward};
 ghost use Rattle.cycle_sim.specs.Paths.{settings};
 ghost use Rattle.cycle_sim.specs.Running.{IsRun};
+ghost use Rattle.cycle_sim.specs.Settings.{IsSettings, array_cells, net_in, plan_in};
 ghost use Rattle.cycle_sim.specs.Stopped.{IsStopped};
 
+use crate::laws::queues_of_a_run_have_room;
 use crate::path::FilePath;
 use crate::{Stop, Unit};
-use net_build::firings_are_rounded_up;
+use net_build::{firings, firings_are_rounded_up};
 use net_cycles::Pipeline;
-use net_ir::CycleCount;
+use net_ir::{CycleCount, Network};
 use soda_io::Files;
+use std::alloc::{AllocError as NoMemory, Global};
+use time_stages::Staged;
 
 /// The network of a program, which runs in cycles over files.
 #[derive(Drop)]
 pub struct Simulation<U> {
     pipeline: Pipeline,
     path: FilePath<U>,
+}
+
+impl<U: Unit + Drop> Simulation<U> {
+    /// The network of a program over files, with nothing done. `path` is what it is about, and has no modules yet; `cells`
+    /// is how many cells an array has, and no delay passes its limit.
+    ///
+    /// `inputs` are the ids of the inputs' files in order, fresh from `open`, `outputs` those of the outputs', fresh from
+    /// `create`. No two are equal, and the name of a created one is that of no other.
+    pub fn new<F: Files>(
+        alloc: Global,
+        files: &F,
+        network: Network,
+        staging: &Staged,
+        mut path: FilePath<U>,
+        cells: u64,
+        inputs: &[u32],
+        outputs: &[u32],
+    ) -> Result<Simulation<U>, NoMemory>
+        requires settings { IsSettings (settings path) }
+        requires going { path.stopped ≡ false }
+        requires network { network ≡ net_in (settings path) }
+        requires staging { staging.now ≡ staged (plain path.program) }
+        requires cells { cells ≡ array_cells (settings path) }
+        requires delays { greatest_delay (plan_in (settings path)) ≤ most_delay }
+        requires inputs { length inputs.now ≡ length (input_types (plain path.program).tensors) }
+        requires outputs { length outputs.now ≡ count_below (is_output (plain path.program))
+            (length (plain path.program).tensors) }
+        requires fresh { AreFresh F.tells inputs.now outputs.now (F.given files.now) (F.store files.now) }
+        ensures settings { IfOk result (λ s. settings s.path ≡ settings path) }
+        ensures going { IfOk result (λ s. s.path.stopped ≡ false) }
+        ensures handles { IfOk result (λ s. HaveHandles (settings path) inputs.now outputs.now
+            s.path.stations.items) }
+        ensures run { IfOk result (λ s. IsRun F.tells
+            (record { value = U.value; place = U.place; step = U.step; count = U.count }) (settings path)
+            (F.given files.now) (F.store files.now) s.path.stations.items s.pipeline) }
+        ensures none { IfOk result (λ s. HasRun s.pipeline.network s.pipeline.firings [] s.pipeline.fired) }
+    {
+        queues_of_a_run_have_room();
+        let firings = firings(path.rows, &path.program, &path.delays);
+        match path.begin(alloc, files, &network, staging, cells, inputs, outputs) {
+            Ok(()) => {}
+            Err(error) => {
+                drop(path);
+                drop(network);
+                return Err(error);
+            }
+        }
+        match Pipeline::new(alloc, network, firings) {
+            Ok(pipeline) => Ok(Simulation { pipeline, path }),
+            Err(error) => {
+                drop(path);
+                Err(error)
+            }
+        }
+    }
 }
 
 impl<U: Unit> Simulation<U> {
@@ -62,8 +127,9 @@ impl<U: Unit> Simulation<U> {
         ensures stopped { IfErr result (λ stop. (fired : List ℕ) × (m : ℕ)
             × FiresAt self.old.pipeline.network self.old.pipeline.firings stalled.now self.old.pipeline.fired fired m
             × (self.new.pipeline.fired ≡ fired_once fired m)
-            × IsStopped F.tells (settings self.new.path) (F.store files.new) self.new.path.stations.items
-            (F.faults files.old) (F.faults files.new) m (slice_index fired m) stop) }
+            × IsStopped F.tells (settings self.new.path) self.old.path.stopped (F.store files.old)
+            (F.store files.new) self.new.path.stations.items (F.faults files.old) (F.faults files.new) m
+            (slice_index fired m) stop) }
     {
         firings_are_rounded_up();
         self.pipeline.cycle(&mut self.path, files, stalled)

@@ -4,7 +4,7 @@ ghost use Rattle.bursts.specs.Blocks.{FailsNow, IsWanted, ReadCause, ReadsOn, ce
 ghost use Rattle.bursts.specs.Readers.{is_done, kind};
 ghost use Rattle.file_modules.specs.Modules.{FaultIs, read_before, source};
 ghost use Rattle.cycle_sim.specs.Stations.{SourceAt, lane_cell};
-ghost use Rattle.cycle_sim.specs.machine.Firings.{Fired, GoesOn, MayFire, SendsAll, Stops, Touches};
+ghost use Rattle.cycle_sim.specs.machine.Firings.{FailedIn, Fired, GoesOn, MayFire, SendsAll, Stops, Touches, done_of};
 
 use crate::{Stop, Unit};
 use array_bytes::CellFault;
@@ -76,6 +76,7 @@ impl SourceStation {
         ensures input { self.new.input ≡ self.old.input }
         ensures lanes { self.new.lanes ≡ self.old.lanes }
         ensures later { self.old.done ≤ self.new.done }
+        ensures still { IfErr result (λ fault. self.new.done ≡ self.old.done) }
         ensures ready { OnOk result (SourceAt F.tells (F.given files.new) (F.store files.new) («firing» + 1) self.new) }
         // Each queue gets the cell of its lane, and the cells up to those of this firing are good.
         ensures sent { F.tells → OnOk result ((j : ℕ) → j < length sends.new → slice_index_or sends.new j (pos 0)
@@ -142,12 +143,14 @@ impl<U: Unit> Station<U> {
         ensures on { GoesOn self.old self.new }
         ensures many { length sends.new ≡ length sends.old }
         ensures given { F.given files.new ≡ F.given files.old }
-        ensures files { F.tells → Touches (F.given files.old) (F.store files.old) (F.store files.new) self.old }
+        ensures files { F.tells → Touches (F.given files.old) (F.store files.old) (F.store files.new) self.old
+            self.new (FailedIn result) }
         ensures fired { OnOk result (Fired F.tells
             (record { value = U.value; place = U.place; step = U.step; count = U.count }) (F.given files.old)
             (F.store files.old) (F.store files.new) «firing» ports.now sends.new self.old self.new) }
         ensures later { F.faults files.old ≤ F.faults files.new }
         ensures kept { OnOk result (F.faults files.new ≡ F.faults files.old) }
+        ensures still { IfErr result (λ stop. done_of self.new ≡ done_of self.old) }
         ensures stopped { IfErr result (Stops F.tells (F.store files.old) (F.store files.new) (F.faults files.old)
             (F.faults files.new) «firing» ports.now self.old) }
     {

@@ -1,8 +1,10 @@
 -- A firing of one module: what it relies on, what it does to the files, and what it leaves.
-use Rattle.std.specs.Prelude.{◌≡◌, ◌≢◌, ℕ, ◌+◌, ◌<◌, ◌≤◌, false, All, List, ◌++◌, ℤ, pos, ◌+ℤ◌, ◌<ℤ◌, ◌^◌, map, length, slice_index, slice_index_or, slice_set, Some}
-use Rattle.std.specs.Prelude.{Err}
+use Rattle.std.specs.Prelude.{◌≡◌, ◌≢◌, ◌↔◌, ℕ, ◌+◌, ◌<◌, ◌≤◌, false, All, List, ◌++◌, ℤ, pos, ◌+ℤ◌, ◌<ℤ◌, ◌^◌, map, length, slice_index, slice_index_or, slice_set, Some}
+use Rattle.std.specs.Prelude.{Result, Ok, Err}
 use Rattle.soda_io.specs.Cause.{Rose}
+use Rattle.soda_io.specs.declared.call.FileCall.{FileCall}
 use Rattle.soda_io.specs.declared.error.IoErr.TheVariants as io
+use Rattle.whole_files.specs.Journal.{EndsFailed, NoneAfterFailed, gots}
 use Rattle.array_bytes.specs.Written.{begun}
 use Rattle.array_bytes.specs.declared.fault.CellFault.TheVariants as cell
 use Rattle.soda_io.specs.Store.{KeepsIds, Store, content}
@@ -12,6 +14,7 @@ use Rattle.bursts.specs.Writers.{HasPut, IsPrefix, output}
 use Rattle.file_modules.specs.Modules.{FaultIs, handed_by, read_before, sink, source}
 use Rattle.cycle_sim.specs.Stations.{SourceAt, Units, good_in, id_of, lane_cell, read_id, station_at, write_id, written_by}
 use Rattle.cycle_sim.specs.Stopped.{OfInput, OfOutput}
+use Rattle.cycle_sim.specs.Using.{IsFailedCall, IsUseOf, ReadsUp, has_ended, read_by}
 use Rattle.cycle_sim.specs.declared.stop.Stop.{Stop}
 use Rattle.cycle_sim.specs.declared.stations.SourceStation.{SourceStation}
 use Rattle.cycle_sim.specs.declared.stations.SinkStation.{SinkStation}
@@ -37,11 +40,30 @@ GoesOn {U = U} Forward t = t ≡ Forward
 GoesOn {U = U} (Compute u) t = (w : U) × (t ≡ Compute w)
 GoesOn (Sink s) t = (r : SinkStation) × (t ≡ Sink r) × (sink r.writes ≡ sink s.writes) × (r.output ≡ s.output)
 
--- the files behind a firing: it reads by the module's id alone, and writes to its name alone
-pub record Touches {U : Type 0} (given : ℕ) (old new : Store) (a : Station U) : Type 0 where
+-- how many firings a source has done
+abbrev pub done_of : {U : Type 0} → Station U → ℕ
+done_of (Source s) = s.done
+done_of Forward = 0
+done_of (Compute u) = 0
+done_of (Sink s) = 0
+
+-- the files behind a firing, which failed by a call or didn't: it reads by the module's id alone, and writes to its name
+-- alone
+pub record Touches {U : Type 0} (given : ℕ) (old new : Store) (a b : Station U) (fails : Type 0) : Type 0 where
   pub ids : KeepsIds given old new
   pub places : (i : ℕ) → i < given → id_of a ≢ Some i → new.place i ≡ old.place i
   pub bytes : (name : List ℕ) → ((i : ℕ) → written_by a ≡ Some i → name ≢ old.name i) → new.bytes name ≡ old.bytes name
+  pub entries : List FileCall
+  pub calls : new.calls ≡ old.calls ++ entries
+  pub own : All (IsUseOf a) entries
+  pub last : NoneAfterFailed entries
+  pub by_call : fails ↔ EndsFailed entries
+  pub reads : (i : ℕ) → read_by a ≡ Some i → ReadsUp (has_ended a) (has_ended b) (gots i entries)
+
+-- an answer of a firing that a call failed
+abbrev pub FailedIn : Result (Unit {0}) Stop → Type 0
+FailedIn (Ok u) = ⊥
+FailedIn (Err stop) = IsFailedCall stop
 
 -- the same value is sent into each queue
 abbrev pub SendsAll : (sends : List ℤ) → ℤ → Type 0

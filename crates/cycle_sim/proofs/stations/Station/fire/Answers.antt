@@ -1,12 +1,13 @@
 use Rattle.std.proofs.Common.{◌+◌, refl, sym, ap, subst}
 use Rattle.std.proofs.Common.{Err}
 use Rattle.file_modules.specs.Modules as of
-use Rattle.cycle_sim.specs.machine.Firings.{Fired, GoesOn, Stops}
+use Rattle.cycle_sim.specs.machine.Firings.{Fired, GoesOn, Stops, Touches}
 use Rattle.cycle_sim.specs.declared.stop.Stop.TheVariants.{Output}
 use Rattle.cycle_sim.specs.Stations.{SourceAt, Units}
 use Rattle.cycle_sim.specs.declared.stations.SinkStation.{SinkStation}
-use Rattle.cycle_sim.specs.declared.stations.Station.TheVariants.{Sink, Source}
+use Rattle.cycle_sim.specs.declared.stations.Station.TheVariants.{Compute, Sink, Source}
 use Rattle.cycle_sim.proofs.Leaving.{put_failed, was_put}
+use Rattle.cycle_sim.proofs.Touched.{compute_touches, source_touches}
 use Rattle.cycle_sim.proofs.stations.Station.fire.Goals as goal
 
 pub returns-in-Ok-clause-on : goal.returns-in-Ok-clause-on
@@ -58,3 +59,16 @@ returns-in-Err-fire-clause-stopped g c =
           (c.in-Err-fire.ensures.put told had bytes e h),
       λ failed. c.in-Err-fire.ensures.cause.failed (ap Err failed),
     )
+
+pub returns-in-Ok-clause-files : goal.returns-in-Ok-clause-files
+returns-in-Ok-clause-files g c told =
+    subst (λ a. Touches (g.F.Files.given c.args.files.now) (g.F.Files.store c.args.files.now) (g.F.Files.store c.fire.new.files) a
+    (Source c.fire.new.self) ⊥) (sym c.in-Source.is)
+    (source_touches (g.F.Files.given c.args.files.now) (g.F.Files.store c.args.files.now) (g.F.Files.store c.fire.new.files) ⊥
+    c.in-Source.source c.fire.new.self _ _ (c.in-Ok.ensures.store told) (λ f. absurd f, λ now. absurd (cc (now.1))))
+
+pub returns-in-Compute-clause-files : goal.returns-in-Compute-clause-files
+returns-in-Compute-clause-files g c told =
+    subst (λ a. Touches (g.F.Files.given c.args.files.now) (g.F.Files.store c.args.files.now) (g.F.Files.store c.args.files.now) a
+    (Compute c.next-value.new.self) ⊥) (sym c.in-Compute.is)
+    (compute_touches (g.F.Files.given c.args.files.now) (g.F.Files.store c.args.files.now) c.in-Compute.unit (Compute c.next-value.new.self))
