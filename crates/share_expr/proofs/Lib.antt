@@ -1,10 +1,4 @@
-pub mod Offsets
-pub mod Search
-pub mod Found
 pub mod Numbers
 pub mod Steps
 pub mod Passed
-pub mod Alike
 pub mod Types
-pub mod Tables
-pub mod Unequal

@@ -1,4 +1,1 @@
 pub mod Working
-pub mod Search
-pub mod Marks
-pub mod Sizes

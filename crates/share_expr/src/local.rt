@@ -10,10 +10,10 @@ ghost use Rattle.share_shape.specs.Shifts.{has_cell};
 ghost use Rattle.share_expr.specs.Working.{with_tensors};
 
 use crate::NoMemory;
-use crate::cells::first_cell;
 use crate::names::share_name;
 use crate::replaced::local_formula;
 use int_types::{binary, common, literal_type, unary};
+use share_shape::first_cell;
 use soda_ir::{Expr, Param, Parts, Role, Tensor};
 use soda_words::{Ty, int32};
 use sqlite_items::{Items, at};

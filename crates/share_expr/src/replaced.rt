@@ -2,14 +2,12 @@ ghost use Rattle.std.specs.Prelude.{◌≡◌, map, neg_ℤ, false, true, IfOk, 
 ghost use Rattle.soda_ir.specs.Formula.{read};
 ghost use Rattle.soda_ir.specs.Tree.{formula_of};
 ghost use Rattle.share_shape.specs.Procedure.{further, renumbered, replaced};
-ghost use Rattle.share_expr.specs.Sizes.{joined, size};
+ghost use Rattle.share_shape.specs.Sizes.{joined, size};
 ghost use Rattle.share_shape.specs.Shifts.{are_shift_equal, first_offset, has_cell, shifted};
 
 use crate::NoMemory;
-use crate::cells::{difference, first_cell};
 use crate::copies::copy_offset;
-use crate::equal::are_shift_equal;
-use crate::sizes::{joined, size};
+use share_shape::{are_shift_equal, difference, first_cell, joined};
 use soda_ir::{Expr, Offset};
 use sqlite_items::Boxed;
 use std::alloc::Global;
@@ -79,7 +77,7 @@ pub(crate) fn local_formula(
 
 // The cell of the local at a number that stands for a formula, where it is shift-equal to the local's compound. Each
 // has a size.
-#[tactic(auto, using(crate::proofs::Unequal::told_apart))]
+#[tactic(auto, using(share_shape::proofs::CallerLemmas::told_apart))]
 fn cell_for(at: u32, compound: &Expr, wanted: u64, expr: &Expr, own: u64) -> Option<Expr>
     requires cell { has_cell (formula_of compound.now) ≡ true }
     requires wanted { wanted ≡ size (formula_of compound.now) }

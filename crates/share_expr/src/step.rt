@@ -2,19 +2,17 @@ ghost use Rattle.std.specs.Prelude.{◌≡◌, ◌<◌, ◌≤◌, ℕ, length, 
 ghost use Rattle.std.specs.List.{insert};
 ghost use Rattle.soda_ir.specs.Program.{plain_tensor};
 ghost use Rattle.soda_ir.specs.Tree.{formula_of};
-ghost use Rattle.share_shape.specs.Compounds.{site};
+ghost use Rattle.share_shape.specs.Compounds.{have_dims, site};
 ghost use Rattle.share_shape.specs.Procedure.{is_used, next_shared, replaced, replaced_in, share_number, shared_at};
 ghost use Rattle.share_shape.specs.Shifts.{has_cell};
-ghost use Rattle.share_expr.specs.Marks.{have_dims};
-ghost use Rattle.share_expr.specs.Sizes.{size};
+ghost use Rattle.share_shape.specs.Sizes.{size};
 ghost use Rattle.share_expr.specs.Working.{names_with, with_tensors};
 
 use crate::NoMemory;
 use crate::local::local_for;
 use crate::names::unused_number;
 use crate::replaced::replaced;
-use crate::sites::first_site;
-use crate::sizes::size;
+use share_shape::{first_site, size};
 use soda_ir::{Expr, Parts, Tensor};
 use sqlite_items::Items;
 use std::alloc::Global;

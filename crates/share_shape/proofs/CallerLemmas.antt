@@ -1,42 +1,32 @@
 -- What crates above cite: what a step does to the result, and what shift-equal compounds have in common.
 use Rattle.std.proofs.Common.{◌≡◌, ◌<◌, ◌==◌, Bool, true, false, Some, None, List, ◌++◌, [], ◌∷◌, ℕ, suc, Option, length, nat_lt, sym, ◌∙◌, ap, arith, if◌then◌else◌}
 use Rattle.std.specs.List.{list_all}
-use Rattle.std.proofs.lemmas.Bool.{and_parts, false≢true}
+use Rattle.std.proofs.lemmas.Bool.{and_parts}
 use Rattle.soda_words.specs.Tokens.{or_else}
-use Rattle.soda_ir.specs.Formula.{Formula}
 use Rattle.soda_ir.specs.Program.{PlainProgram, PlainTensor}
 use Rattle.soda_ir.specs.Uses.{formula_is}
-use Rattle.soda_ir.proofs.CallerLemmas.{every_weaker}
+use Rattle.soda_ir.proofs.CallerLemmas.{every_weaker, levels}
 use Rattle.share_shape.specs.Compounds.{Site, sites, sites_from}
 use Rattle.share_shape.specs.Limits.{first_past}
 use Rattle.share_shape.specs.Procedure.{first_shared, next_shared, shared, shared_in}
-use Rattle.share_shape.specs.Shifts.{are_shift_equal, has_cell}
-use Rattle.share_shape.proofs.Counting.{same_cell}
+use Rattle.share_shape.specs.Shifts.{has_cell}
 use Rattle.share_shape.proofs.Decent.{formulas_pass}
 use Rattle.share_shape.proofs.Ending.{enough, fewer, steps_off, steps_on}
 use Rattle.share_shape.proofs.Exact.{has_dims}
 use Rattle.share_shape.proofs.Fit.{IsFit, formula_there}
 use Rattle.share_shape.proofs.Found.{IsSite, found, none_closed, sites_have}
 use Rattle.share_shape.proofs.Sides.{is_there}
-pub use Rattle.share_shape.proofs.Counting.{any_one, same_cell, site_hits}
-pub use Rattle.share_shape.proofs.Ending.{ends, fewer}
-pub use Rattle.share_shape.proofs.Exact.{first_long, has_dims}
+pub use Rattle.share_shape.proofs.Ending.{fewer}
 pub use Rattle.share_shape.proofs.Fit.{IsFit}
-pub use Rattle.share_shape.proofs.Found.{Every, IsSite, none_closed, sites_have, some_site}
 pub use Rattle.share_shape.proofs.Inserted.{map_insert}
 pub use Rattle.share_shape.proofs.Left.{nothing_left}
-pub use Rattle.share_shape.proofs.Same.{base_one, one_base}
 pub use Rattle.share_shape.proofs.Names.{below_used, unused, unused_within}
 pub use Rattle.share_shape.proofs.Sound.{fit_next, fit_of, shared_like}
+pub use Rattle.share_shape.proofs.Unequal.{no_hit, unequal}
 pub use Rattle.share_shape.proofs.Valid.{shared_sound, shared_valid}
 
-no_hit_by : (c f : Formula) (b : Bool) → are_shift_equal c f ≡ b → has_cell c ≡ true → has_cell f ≡ false → b ≡ false
-no_hit_by c f true e h k = absurd (false≢true (sym k ∙ sym (same_cell c f e) ∙ h))
-no_hit_by c f false e h k = λ i. false
-
--- a formula with no cell is shift-equal to none that has one
-pub no_hit : (c f : Formula) → has_cell c ≡ true → has_cell f ≡ false → are_shift_equal c f ≡ false
-no_hit c f h k = no_hit_by c f (are_shift_equal c f) (λ i. are_shift_equal c f) h k
+-- formulas that are not shift-equal, one level of a tree at a time
+pub ruleset told_apart = (levels, no_hit, unequal)
 
 -- the tensor of the compound that is found is there, and a cell stands in the compound
 pub found_there : (ts : List PlainTensor) (s : Site) → first_shared (sites_from 0 ts) ≡ Some s → (s.tensor < length ts) × (has_cell s.compound ≡ true)

@@ -18,3 +18,9 @@ pub mod Names
 pub mod Sizes
 pub mod Decent
 pub mod Valid
+pub mod Offsets
+pub mod Unequal
+pub mod Search
+pub mod Passing
+pub mod Alike
+pub mod Tables

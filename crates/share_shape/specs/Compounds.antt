@@ -1,7 +1,9 @@
 -- The compounds of a formula and of a program, in order.
-use Rattle.std.specs.Prelude.{ℕ, suc, List, [], ◌∷◌, ◌++◌, map, if◌then◌else◌}
-use Rattle.soda_ir.specs.Formula.{Formula, number, read, param, unary, binary, choice, cast, by_formula}
+use Rattle.std.specs.Prelude.{ℕ, suc, Bool, ◌==◌, List, [], ◌∷◌, ◌++◌, length, map, if◌then◌else◌}
+use Rattle.std.specs.List.{list_all}
+use Rattle.soda_ir.specs.Formula.{Formula, number, read, param, unary, binary, choice, cast, by_formula, every}
 use Rattle.soda_ir.specs.Program.{PlainProgram, PlainTensor}
+use Rattle.soda_ir.specs.Uses.{formula_is}
 use Rattle.share_shape.specs.Shifts.{has_cell}
 
 -- a formula with a cell before these
@@ -38,3 +40,7 @@ sites_from k (t ∷ ts) = map (site k) (compounds_of t) ++ sites_from (suc k) ts
 -- all compounds of a program
 abbrev pub sites : PlainProgram → List Site
 sites p = sites_from 0 p.tensors
+
+-- all offsets of these tensors' formulas have so many components
+abbrev pub have_dims : ℕ → List PlainTensor → Bool
+have_dims d ts = list_all (formula_is (every (λ t o. length o == d))) ts

@@ -3,3 +3,5 @@ pub mod Compounds
 pub mod Procedure
 pub mod Limits
 pub mod Counts
+pub mod Sizes
+pub mod machine

@@ -3,7 +3,7 @@ use Rattle.soda_ir.specs.declared.program.Tensor.{Tensor}
 use Rattle.soda_ir.specs.Program.{plain_tensor}
 use Rattle.share_shape.specs.Procedure.{is_used, next_shared}
 use Rattle.share_shape.proofs.CallerLemmas.{fewer, fit_dims, fit_next, fit_of, shared_next, shared_same}
-use Rattle.share_expr.specs.Marks.{have_dims}
+use Rattle.share_shape.specs.Compounds.{have_dims}
 use Rattle.share_expr.specs.Working.{names_with, with_tensors}
 use Rattle.share_expr.proofs.sharing.all_steps.Goals as goal
 
