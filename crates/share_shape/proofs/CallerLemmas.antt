@@ -1,5 +1,5 @@
 -- What crates above cite: what a step does to the result, and what shift-equal compounds have in common.
-use Rattle.std.proofs.Common.{◌≡◌, ◌<◌, ◌==◌, Bool, true, false, Some, None, List, ◌++◌, [], ◌∷◌, ℕ, suc, Option, length, nat_lt, sym, ◌∙◌, ap, arith, if◌then◌else◌}
+use Rattle.std.proofs.Common.{◌≡◌, ◌<◌, ◌==◌, Bool, true, false, Some, None, List, ◌++◌, [], ◌∷◌, ℕ, suc, length, nat_lt, sym, ◌∙◌, arith, if◌then◌else◌}
 use Rattle.std.specs.List.{list_all}
 use Rattle.std.proofs.lemmas.Bool.{and_parts}
 use Rattle.soda_words.specs.Tokens.{or_else}
@@ -8,7 +8,7 @@ use Rattle.soda_ir.specs.Uses.{formula_is}
 use Rattle.soda_ir.proofs.CallerLemmas.{every_weaker, levels}
 use Rattle.share_shape.specs.Compounds.{Site, sites, sites_from}
 use Rattle.share_shape.specs.Limits.{first_past}
-use Rattle.share_shape.specs.Procedure.{first_shared, next_shared, shared, shared_in}
+use Rattle.share_shape.specs.Procedure.{first_shared, next_shared, shared}
 use Rattle.share_shape.specs.Shifts.{has_cell}
 use Rattle.share_shape.proofs.Decent.{formulas_pass}
 use Rattle.share_shape.proofs.Ending.{enough, fewer, steps_off, steps_on}

@@ -1,5 +1,5 @@
 -- What each step keeps of a program: its inputs stand first, each formula reads tensors that are there, and they can be ranked.
-use Rattle.std.proofs.Common.{◌≡◌, ℕ, zero, suc, ◌-◌, ◌<◌, ◌≤◌, Bool, true, false, not, ◌&&◌, ◌==◌, List, [], ◌∷◌, ℤ, Option, Some, None, option_map, map, slice_index_or, length, max, nat_lt, refl, sym, ◌∙◌, ap, subst, arith, ⊎_elim, length-append, if◌then◌else◌}
+use Rattle.std.proofs.Common.{◌≡◌, ℕ, zero, suc, ◌-◌, ◌<◌, ◌≤◌, true, false, not, ◌&&◌, ◌==◌, List, [], ◌∷◌, ℤ, Option, Some, None, option_map, map, slice_index_or, length, max, nat_lt, refl, sym, ◌∙◌, ap, subst, arith, ⊎_elim, length-append, if◌then◌else◌}
 use Rattle.std.specs.Prelude.{neg_ℤ}
 use Rattle.std.specs.List.{insert}
 use Rattle.std.proofs.lemmas.Bool.{and_from, and_parts, cases_lt, eq-eqb, eqb-true, false≢true, le-ltb, lt-ltb, ltb-true, ne_eqb}
@@ -16,7 +16,6 @@ use Rattle.soda_eval.specs.Points.{moved}
 use Rattle.soda_eval.specs.Runs.{borders_from, scope_of, stencil_of}
 use Rattle.soda_eval.specs.Values.{typed}
 use Rattle.soda_ir.proofs.CallerLemmas.{every_weaker}
-use Rattle.soda_eval.proofs.CallerLemmas.{every_same}
 use Rattle.share_shape.specs.Compounds.{Site, sites}
 use Rattle.share_shape.specs.Procedure.{first_shared, further, local_for, renumbered, replaced, replaced_in, shared_at}
 use Rattle.share_shape.specs.Shifts.{are_shift_equal, based, first_offset, has_cell, shifted}
