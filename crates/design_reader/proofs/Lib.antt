@@ -7,3 +7,4 @@ pub mod Ending
 pub mod Made
 pub mod Unrefused
 pub mod OneLine
+pub mod ManyQueues

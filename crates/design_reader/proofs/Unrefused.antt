@@ -121,6 +121,16 @@ small_storage d h n lt =
     let size : length (p.kinds) ≡ length (staged_tensors d.program) = length-map (staged_tensors d.program) (kind_of d.program) in
     omega (arith, part_within n (length (p.kinds)) (storage_of (staged_reads d.program) d.delays) (omega (arith, size)), second.0)
 
+-- and its modules are few
+pub few_modules : (d : PlainDesign) → IsDesign d → length (modules_of (plan_of d.program d.delays)) ≤ most_modules
+few_modules d h =
+    let p = plan_of d.program d.delays in
+    let by_modules : Option (LimitKind × ℕ) = if nat_lt most_modules (length (modules_of p)) then Some (Modules, length (modules_of p)) else None in
+    let by_reuse : Option (LimitKind × ℕ) = if nat_lt most_reuse (cells_held p) then Some (Reuse, cells_held p) else by_modules in
+    let first = kept_limit Delay most_delay (greatest_delay p) by_reuse h.within in
+    let second = kept_limit Reuse most_reuse (cells_held p) by_modules first.1 in
+    (kept_limit Modules most_modules (length (modules_of p)) None second.1).0
+
 module _ (d : PlainDesign) (h : IsDesign d) where
   small_delay : (n : ℕ) → slice_index d.delays n < delay_end
   small_delay n = small_at delay_end d.delays n (omega arith) h.short

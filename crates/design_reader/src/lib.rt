@@ -11,7 +11,9 @@ mod reading;
 mod totals;
 
 pub use fail::TextFail;
-pub use laws::{refused_lines_are_one, texts_of_designs_are_not_refused};
+pub use laws::{
+    queues_of_designs_are_few, refused_lines_are_one, texts_of_designs_are_not_refused,
+};
 pub use limits::MOST_DESIGN_TEXT;
 pub use reading::read_design;
 /// Want of memory.
