@@ -1,0 +1,4 @@
+pub mod Course
+pub mod Meeting
+pub mod Inputs
+pub mod Uses
