@@ -15,11 +15,11 @@ use Rattle.job_status.specs.declared.status.Status.TheVariants as is
 use Rattle.sodac_cli.specs.Correct.{Runs}
 use Rattle.sodac_cli.specs.Due.{DueOver, MayAsk, accepted, asks_arrays, good_params}
 use Rattle.job_status.specs.Endings.{due, ending_of}
-use Rattle.sodac_cli.specs.Journal.{ReadsFew, opened_count}
+use Rattle.sodac_cli.specs.Journal.{ReadsFew, in_order, opened_count}
 use Rattle.sodac_cli.specs.Machine.Steps.{IsJudged}
 use Rattle.sodac_cli.specs.Outputs.{AreOutputs, Delivers, Leaves}
-use Rattle.sodac_cli.specs.Work.{HasParams, files_of, output_names, text_count}
-use Rattle.sodac_cli.proofs.Begun.{due_with, runs_due, runs_fault, runs_memory}
+use Rattle.sodac_cli.specs.Work.{HasParams, array_files, files_of, output_names, text_count}
+use Rattle.sodac_cli.proofs.Begun.{due_with, not_streamed, runs_due, runs_fault, runs_memory}
 use Rattle.sodac_cli.proofs.Numbered.{created_files, texts_counted}
 
 -- its outputs hold these bytes
@@ -61,9 +61,8 @@ module _ (first : ℕ) (begun : Store) (a : Asked) (p : PlainProgram) (values : 
         (record {
           ended = ended;
           places = places;
-          progress = progress;
+          went = in_order progress all;
           few = few;
-          all = all;
           program = λ ne. omega (arith, some);
-          texts = λ ne also. omega (arith, some, texts_counted a p);
-        }) delivered
+          texts = λ ne also more. omega (arith, some, texts_counted a p);
+        }) delivered (λ k f e. not_streamed begun.bytes now.bytes a array_files judged.arrays (λ e. absurd (cc)))

@@ -20,10 +20,10 @@ module _ (h : Holding) (form : Form) (n : ℕ) where
       let P : List ℕ → Type 0 = λ bs. IsFaulty form ty n bs f in
       subst P (same_Some x.bytes bytes (sym x.there ∙ there)) x.faulty
 
-  fault_one : (ty : IntType) (name : List ℕ) (f g : CellFault) → HoldsFault h form n ty name f → HoldsFault h form n ty name g → f ≡ g
+  pub fault_one : (ty : IntType) (name : List ℕ) (f g : CellFault) → HoldsFault h form n ty name f → HoldsFault h form n ty name g → f ≡ g
   fault_one ty name f g x y = same_Some f g (sym x.faulty ∙ fault_there ty name x.bytes g x.there y)
 
-  never_both : (ty : IntType) (name : List ℕ) (cells : List ℤ) (f : CellFault) → HoldsCells h form n ty name cells → HoldsFault h form n ty name f → ⊥
+  pub never_both : (ty : IntType) (name : List ℕ) (cells : List ℤ) (f : CellFault) → HoldsCells h form n ty name cells → HoldsFault h form n ty name f → ⊥
   never_both ty name cells f x y =
       let bad : None ≡ Some f = sym x.good.0 ∙ fault_there ty name x.bytes f x.there y in
       cc

@@ -1,5 +1,5 @@
 -- What ends the run of a job that is built.
-use Rattle.std.proofs.Common.{◌≡◌, ℕ, zero, suc, Bool, true, false, List, [], ◌∷◌, ◌++◌, length, take, Some, None, if◌then◌else◌, refl, sym, ap, subst, ◌∙◌, inl}
+use Rattle.std.proofs.Common.{◌≡◌, ◌≢◌, ℕ, zero, suc, Bool, true, false, List, [], ◌∷◌, ◌++◌, length, take, Some, None, if◌then◌else◌, refl, sym, ap, subst, ◌∙◌, inl}
 use Rattle.soda_io.specs.declared.call.FileCall.{FileCall}
 use Rattle.soda_io.specs.declared.role.FileRole.{FileRole}
 use Rattle.soda_io.specs.Store.{KeepsBytes, Store}
@@ -14,9 +14,11 @@ use Rattle.job_status.specs.declared.status.Status.TheVariants as is
 use Rattle.sodac_cli.specs.Correct.{Runs}
 use Rattle.sodac_cli.specs.Due.{DueBehind, DueBy, DueFor, DueIf, DueOf, DueWith, MayAsk, MayAskFor, MayAskIf, RefusalOf}
 use Rattle.job_status.specs.Endings.{Ending, due, ending_of, out_fault}
-use Rattle.sodac_cli.specs.Journal.{AsksAll, AsksBy, ReadsFew}
-use Rattle.sodac_cli.specs.Outputs.{Delivers, Leaves}
-use Rattle.sodac_cli.specs.Work.{Product, array_files, is_built, makes, module_file, modules_file, no_files, program_file}
+use Rattle.array_bytes.specs.declared.fault.CellFault.{CellFault}
+use Rattle.job_status.specs.declared.status.ArrayFault.TheVariants as of
+use Rattle.sodac_cli.specs.Journal.{AsksAll, AsksBy, ReadsFew, in_order, stuck}
+use Rattle.sodac_cli.specs.Outputs.{Delivers, DeliversAtEnd, Leaves}
+use Rattle.sodac_cli.specs.Work.{Product, array_files, is_built, makes, module_file, modules_file, no_files, program_file, streamed_files}
 
 -- what is stated by whether a job is built, at one that is
 module _ (h : Holding) (a : Asked) (built : is_built a ≡ true) where
@@ -44,6 +46,10 @@ module _ (h : Holding) (a : Asked) (p : PlainProgram) (files : List JobFile) (st
 
   pub due_refused : RefusalOf a p (Some status) → files ≡ program_file a ∷ [] → DueBehind h a p files status
   due_refused some all = (Some status, some, (all, refl))
+
+-- where nothing is streamed, no fault at an input's end leaves outputs
+pub not_streamed : (old new : Holding) (a : Asked) (m : Product) → makes a.mode ≡ m → m ≢ streamed_files → DeliversAtEnd old new (Some a)
+not_streamed old new a m same other = λ streams. absurd (other (sym same ∙ streams))
 
 -- where no file of a list is created, none of its first is
 pub created_none : (files : List JobFile) → created_of files ≡ [] → (count : ℕ) → created_of (take count files) ≡ []
@@ -80,32 +86,36 @@ module _ (first : ℕ) (begun : Store) (a : Asked) (given : ℕ) (now : Store) (
   -- with the status that is due
   pub runs_due : (files : List JobFile) (status : Status) → ending_of status ≡ due → DueOf begun.bytes a files status
       → AsksAll first begun (Some a) given now status files → (status ≡ is.Ok → Delivers begun.bytes now.bytes (Some a))
+      → ((number : ℕ) (fault : CellFault) → status ≡ is.Array (of.Cell number fault) → DeliversAtEnd begun.bytes now.bytes (Some a))
       → Runs first begun (Some a) given now status
-  runs_due files status ending d asks delivered =
+  runs_due files status ending d asks delivered at_end =
       let P : Ending → Type 0 = λ e. AsksBy first begun (Some a) given now e status in
       record {
         journal = subst P (sym ending) (record { files = files; due = due_built begun.bytes a built files status d; asks = asks });
         files = leaves;
         delivered = delivered;
         whole = λ e. let other : due ≡ out_fault = sym ending ∙ ap ending_of e in absurd (cc);
+        at_end = at_end;
       }
 
   module _ (made : List JobFile) (may : MayAsk begun.bytes a made) (ended : ℕ) (places : ℕ → ℕ) (few : ReadsFew a places) where
     -- for want of memory
     pub runs_memory : Progress first begun made ended places given now → Runs first begun (Some a) given now is.Memory
     runs_memory p = record {
-      journal = inl (record { made = made; may = may_built begun.bytes a built made may; ended = ended; places = places; progress = p; few = few });
+      journal = inl (record { made = made; may = may_built begun.bytes a built made may; ended = ended; places = places; went = in_order p (λ e. absurd (cc)); few = few });
       files = leaves;
       delivered = λ e. absurd (cc);
       whole = λ e. absurd (cc);
+      at_end = λ k f e. absurd (cc);
     }
 
     -- with a fault of a file
     pub runs_fault : (role : FileRole) (number : ℕ) → HasRole made number role → Stuck first begun made ended number places given now
         → Runs first begun (Some a) given now (is.FileFault role)
     runs_fault role number has s = record {
-      journal = record { made = made; may = may_built begun.bytes a built made may; ended = ended; number = number; places = places; stuck = s; few = few; has_role = has };
+      journal = record { made = made; may = may_built begun.bytes a built made may; ended = ended; number = number; places = places; wrong = stuck s; few = few; has_role = has };
       files = leaves;
       delivered = λ e. absurd (cc);
       whole = λ e. absurd (cc);
+      at_end = λ k f e. absurd (cc);
     }

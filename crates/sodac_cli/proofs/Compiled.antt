@@ -23,11 +23,11 @@ use Rattle.sodac_cli.specs.Allowed.{AllowsCompile}
 use Rattle.sodac_cli.specs.Correct.{Runs}
 use Rattle.job_status.specs.Counts.{OutFaults}
 use Rattle.sodac_cli.specs.Due.{DueOf, FirstRefusal, MayAsk, RefusalAt, RefusalOf, accepted, asks_module, by_network, limit_status, stages_of}
-use Rattle.sodac_cli.specs.Journal.{AsksAll, ReadsFew}
+use Rattle.sodac_cli.specs.Journal.{AsksAll, ReadsFew, in_order}
 use Rattle.sodac_cli.specs.Machine.Modules.{IsDesigned, IsMade, IsOfModules, WritesModules}
 use Rattle.sodac_cli.specs.Machine.Steps.{IsRead}
 use Rattle.compile_job.specs.Modules.{IsModuleText, PassesLimit}
-use Rattle.sodac_cli.specs.Outputs.{AreOutputs, Delivers, DeliversBy, Leaves}
+use Rattle.sodac_cli.specs.Outputs.{AreOutputs, Delivers, DeliversBeforeBy, DeliversBy, Leaves}
 use Rattle.sodac_cli.specs.Printed.{Prints}
 use Rattle.sodac_cli.specs.Work.{AreTexts, AreTextsBy, HasProgram, Product, makes, module_file, modules_file, program_file, target_of}
 use Rattle.sodac_cli.proofs.Begun.{due_built, due_file, runs_due, runs_fault, runs_memory}
@@ -64,7 +64,7 @@ module _ (first : ℕ) (begun : Store) (a : Asked) (p : PlainProgram) (writes : 
 
   -- a prefix of the text
   are_made : (n : ℕ) (held : List ℕ) → held ≡ take n text → AreOutputs begun.bytes (Some a) ((target_of a, held) ∷ [])
-  are_made n held same = inr (record { plain = p; program = program; prefixes = inr (text ∷ [], texts, ((n, same), tt)) })
+  are_made n held same = inr (record { plain = p; program = program; prefixes = inr (inl (text ∷ [], texts, ((n, same), tt))) })
 
   module _ (given : ℕ) (now : Store) (n : ℕ) (held : List ℕ) (same : held ≡ take n text)
       (holds : Holds begun.bytes now.bytes ((target_of a, held) ∷ [])) where
@@ -90,7 +90,7 @@ module _ (first : ℕ) (begun : Store) (a : Asked) (p : PlainProgram) (writes : 
           is_done = accepted p program (due_file begun.bytes a p (both a) is.Ok pass makes_it refl refl)
 
           asks : (status : Status) → AsksAll first begun (Some a) given now status (both a)
-          asks status = record { ended = 1; places = places; progress = progress; few = few; all = λ e. refl; program = λ ne. omega arith; texts = λ ne also. omega arith }
+          asks status = record { ended = 1; places = places; went = in_order progress (λ e. refl); few = few; program = λ ne. omega arith; texts = λ ne also more. omega arith }
 
           delivered : Delivers begun.bytes now.bytes (Some a)
           delivered =
@@ -100,14 +100,19 @@ module _ (first : ℕ) (begun : Store) (a : Asked) (p : PlainProgram) (writes : 
               (record { plain = p; program = program; text = text; are = is_text; holds = own ∙ ap (λ (bytes : List ℕ). Some bytes) whole })
 
           pub compiled : Runs first begun (Some a) given now is.Ok
-          compiled = runs_due first begun a given now writes.built leaves (both a) is.Ok refl is_done (asks is.Ok) (λ e. delivered)
+          compiled = runs_due first begun a given now writes.built leaves (both a) is.Ok refl is_done (asks is.Ok) (λ e. delivered) (λ k f e. absurd (cc))
 
           pub unprinted : Runs first begun (Some a) given now is.OutFault
           unprinted = record {
-            journal = record { files = both a; due = due_built begun.bytes a writes.built (both a) is.Ok is_done; asks = asks is.Ok };
+            journal = inl (record { files = both a; due = due_built begun.bytes a writes.built (both a) is.Ok is_done; asks = asks is.Ok });
             files = leaves;
             delivered = λ e. absurd (cc);
-            whole = λ e. delivered;
+            whole = λ e.
+                let Q : Product → Type 0 = λ x. DeliversBeforeBy x begun.bytes now.bytes a in
+                let R : Product → Type 0 = λ x. DeliversBy x begun.bytes now.bytes a in
+                let own : DeliversBy module_file begun.bytes now.bytes a = subst R makes_it delivered in
+                subst Q (sym makes_it) own;
+            at_end = λ k f e. absurd (cc);
           }
 
 -- a file that is to be created
@@ -239,8 +244,8 @@ modules_allowed is.Memory t = tt
 modules_allowed s t = absurd t
 
 pub modules_prints : (s : Status) → IsOfModules s → (h : Holding) (asked : Option Asked) (old : List ℕ) → Prints h asked old old s
-modules_prints (is.FileFault role) t h asked old = prints_nothing h asked old (is.FileFault role) (λ e. absurd (cc)) (λ e. absurd (cc))
-modules_prints is.Memory t h asked old = prints_nothing h asked old is.Memory (λ e. absurd (cc)) (λ e. absurd (cc))
+modules_prints (is.FileFault role) t h asked old = prints_nothing h asked old (is.FileFault role) (λ e. absurd (cc)) (λ e. absurd (cc)) (λ k f e. absurd (cc))
+modules_prints is.Memory t h asked old = prints_nothing h asked old is.Memory (λ e. absurd (cc)) (λ e. absurd (cc)) (λ k f e. absurd (cc))
 modules_prints s t h asked old = absurd t
 
 pub modules_out : (s : Status) → IsOfModules s → (n : ℕ) → OutFaults n n s

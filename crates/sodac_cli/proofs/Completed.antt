@@ -18,7 +18,8 @@ pub due_of_journal : (first : ℕ) (begun : Store) (asked : Option Asked) (given
     → AsksBy first begun asked given now e s → IsDueBy e begun.bytes asked s
 due_of_journal first begun asked given now due s j = (j.files, j.due)
 due_of_journal first begun asked given now (file_fault role) s j = tt
-due_of_journal first begun asked given now out_fault s j = (j.files, j.due)
+due_of_journal first begun asked given now out_fault s (inl j) = inl (j.files, j.due)
+due_of_journal first begun asked given now out_fault s (inr j) = inr (j.runs.a, j.runs.is, j.runs.built, j.files, j.runs.may)
 due_of_journal first begun asked given now memory s j = tt
 
 -- where one status alone is due, and no count rose

@@ -117,7 +117,7 @@ module _ (first : ℕ) (begun : Store) (a : Asked) (p : PlainProgram) (values : 
     holds = holds_kept begun.bytes old.bytes now.bytes empty kept g.holds
 
     few : (after : ℕ → ℕ) (place : ℕ) → Moves g.asked.places after (text_count a + number) place → ReadsFew a after
-    few after place m = few_behind a g.asked.places after g.asked.few (text_count a + number) place (omega arith) m
+    few after place m = few_behind a g.asked.places after g.asked.few g.judged.arrays (text_count a + number) place (omega arith) m
 
     input_fault : Reading (Err cell.Failed) → Runs first begun (Some a) given now (is.FileFault (Input number))
     input_fault x =

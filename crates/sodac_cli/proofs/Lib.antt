@@ -4,6 +4,7 @@ pub mod Begun
 pub mod Reading
 pub mod LinesPut
 mod Judged
+mod OneRun
 mod OneDue
 pub mod Memory
 pub mod Unasked

@@ -19,8 +19,12 @@ use Rattle.command_words.specs.Orders.{Asked}
 use Rattle.job_status.specs.declared.status.ArrayFault.TheVariants as of
 use Rattle.job_status.specs.declared.status.Status.{Status}
 use Rattle.job_status.specs.declared.status.Status.TheVariants as is
-use Rattle.sodac_cli.specs.Due.{DueAfter, DueBehind, DueBy, DueFor, DueIf, DueOf, DueOver, DueWith, FirstRefusal, RefusalAt, RefusalBehind, Stage, accepted, bad_params, by_limits, by_names, by_network, done, faulty, good_params, limit_status, refused, stages_of}
-use Rattle.sodac_cli.specs.Work.{HasParamsBy, HasProgram, Product, RefusesParamsBy, array_files, form_of, input_names, is_built, makes, module_file, no_files, program_of, rows_of}
+use Rattle.sodac_cli.specs.Due.{DueAfter, DueBehind, DueBy, DueFor, DueIf, DueOf, DueOver, DueStreamed, DueWith, FirstRefusal, RefusalAt, RefusalBehind, Stage, accepted, bad_params, by_limits, by_names, by_network, done, faulty, good_params, limit_status, refused, run, stages_of, wrong_params, wrong_stalls}
+use Rattle.sodac_cli.specs.Work.{HasParamsBy, HasProgram, Product, RefusesParamsBy, array_files, form_of, input_names, is_built, makes, module_file, no_files, program_of, rows_of, streamed_files}
+use Rattle.sim_lines.specs.declared.stall.Stall.{Stall}
+use Rattle.sim_course.specs.Meeting.{MeetsFirst}
+use Rattle.sodac_cli.specs.Simulated.{ComesTo}
+use Rattle.sodac_cli.proofs.OneRun.{comes_one, stall_line_one, stalls_one, stalls_or_line}
 use Rattle.sodac_cli.proofs.ArrayLaws.{fault_or_arrays, faults_one}
 
 -- over the inputs
@@ -60,14 +64,38 @@ module _ (values_one : (ps : List PlainParam) (bytes : List ℕ) (v w : List ℤ
     with_one f g s t (good_params values given all over) (bad_params k refuses those ends) = absurd (never_by a.params values k given refuses)
     with_one f g s t (good_params values given all over) (good_params others also those more) = (over_one h a p s t over more, all ∙ sym those)
 
-    by_one : (m : Product) (f g : List JobFile) (s t : Status) → DueBy m h a p f s → DueBy m h a p g t → (s ≡ t) × (f ≡ g)
-    by_one no_files f g s t x y = (x.1 ∙ sym y.1, x.0 ∙ sym y.0)
-    by_one array_files f g s t x y = with_one f g s t x y
-    by_one module_file f g s t x y = (x.1 ∙ sym y.1, x.0 ∙ sym y.0)
+    -- behind a simulation's
+    module _ (plans_one : (weights : List ℕ) (reads : List Read) (first second : List ℕ) → IsLeastPlan weights reads first → IsLeastPlan weights reads second → first ≡ second)
+        (met_once : (p : PlainProgram) (delays : List ℕ) (n : ℕ) (flags : ℕ → List Bool) (goods : ℕ → ℕ) (cycle m input later other another : ℕ)
+        → MeetsFirst p delays n flags goods cycle m input → MeetsFirst p delays n flags goods later other another
+        → (cycle ≡ later) × (m ≡ other) × (input ≡ another)) where
+      streamed_one : (f g : List JobFile) (s t : Status) → DueStreamed h a p f s → DueStreamed h a p g t → (s ≡ t) × (f ≡ g)
+      streamed_one f g s t (wrong_params k refuses all ends) (wrong_params l gone those stops) =
+          (ends ∙ ap (λ (i : ℕ). is.Array (of.Params i)) (lines_by a.params k l refuses gone) ∙ sym stops, all ∙ sym those)
+      streamed_one f g s t (wrong_params k refuses all ends) (wrong_stalls values given l gone those stops) = absurd (never_by a.params values k given refuses)
+      streamed_one f g s t (wrong_params k refuses all ends) (run delays values stalls ready those comes) = absurd (never_by a.params values k ready.params refuses)
+      streamed_one f g s t (wrong_stalls values given l gone those stops) (wrong_params k refuses all ends) = absurd (never_by a.params values k given refuses)
+      streamed_one f g s t (wrong_stalls values given k refuses all ends) (wrong_stalls others also l gone those stops) =
+          (ends ∙ ap (λ (i : ℕ). is.Array (of.Stall i)) (stall_line_one h p a.stall k l refuses gone) ∙ sym stops, all ∙ sym those)
+      streamed_one f g s t (wrong_stalls values given k refuses all ends) (run delays others stalls ready those comes) = absurd (stalls_or_line h p a.stall stalls k ready.listed refuses)
+      streamed_one f g s t (run delays values stalls ready those comes) (wrong_params k refuses all ends) = absurd (never_by a.params values k ready.params refuses)
+      streamed_one f g s t (run delays values stalls ready those comes) (wrong_stalls others given k refuses all ends) = absurd (stalls_or_line h p a.stall stalls k ready.listed refuses)
+      streamed_one f g s t (run delays values stalls ready all comes) (run plan others list fit those more) =
+          let same : plan ≡ delays = plans_one (staged_widths p) (staged_reads p) plan delays fit.plan ready.plan in
+          let one : list ≡ stalls = stalls_one h p a.stall list stalls fit.listed ready.listed in
+          let P : List ℕ → Type 0 = λ d. ComesTo a p d stalls h t in
+          let Q : List Stall → Type 0 = λ l. ComesTo a p plan l h t in
+          (comes_one met_once h a p delays stalls s t comes (subst P same (subst Q one more)), all ∙ sym those)
 
-    pub behind_one : (f g : List JobFile) (s t : Status) (o : Option Status) → DueAfter o h a p f s → DueAfter o h a p g t → (s ≡ t) × (f ≡ g)
-    behind_one f g s t None x y = by_one (makes a.mode) f g s t x y
-    behind_one f g s t (Some r) x y = (x.1 ∙ sym y.1, x.0 ∙ sym y.0)
+      by_one : (m : Product) (f g : List JobFile) (s t : Status) → DueBy m h a p f s → DueBy m h a p g t → (s ≡ t) × (f ≡ g)
+      by_one no_files f g s t x y = (x.1 ∙ sym y.1, x.0 ∙ sym y.0)
+      by_one array_files f g s t x y = with_one f g s t x y
+      by_one module_file f g s t x y = (x.1 ∙ sym y.1, x.0 ∙ sym y.0)
+      by_one streamed_files f g s t x y = streamed_one f g s t x y
+
+      pub behind_one : (f g : List JobFile) (s t : Status) (o : Option Status) → DueAfter o h a p f s → DueAfter o h a p g t → (s ≡ t) × (f ≡ g)
+      behind_one f g s t None x y = by_one (makes a.mode) f g s t x y
+      behind_one f g s t (Some r) x y = (x.1 ∙ sym y.1, x.0 ∙ sym y.0)
 
 -- the steps of a mode have one first refusal at most, since a program has one least plan at most
 module _ (plans_one : (weights : List ℕ) (reads : List Read) (first second : List ℕ) → IsLeastPlan weights reads first → IsLeastPlan weights reads second → first ≡ second)
@@ -98,6 +126,9 @@ module _ (program : (most : ℕ) (share : Bool) (bytes : List ℕ) (p q : PlainP
     (line_one : (ps : List PlainParam) (bytes : List ℕ) (k l : ℕ) → RefusesLine ps bytes k → RefusesLine ps bytes l → k ≡ l)
     (never_both : (ps : List PlainParam) (bytes : List ℕ) (v : List ℤ) (l : ℕ) → GivesParams ps bytes v → RefusesLine ps bytes l → ⊥)
     (plans_one : (weights : List ℕ) (reads : List Read) (first second : List ℕ) → IsLeastPlan weights reads first → IsLeastPlan weights reads second → first ≡ second)
+    (met_once : (p : PlainProgram) (delays : List ℕ) (n : ℕ) (flags : ℕ → List Bool) (goods : ℕ → ℕ) (cycle m input later other another : ℕ)
+    → MeetsFirst p delays n flags goods cycle m input → MeetsFirst p delays n flags goods later other another
+    → (cycle ≡ later) × (m ≡ other) × (input ≡ another))
     (h : Holding) where
   -- the program's file holds one text
   spoken_there : (a : Asked) (p : PlainProgram) (bytes : List ℕ) → h (program_of a) ≡ Some bytes → HasProgram h a p → SpeaksOf most_text a.share bytes p
@@ -120,7 +151,7 @@ module _ (program : (most : ℕ) (share : Bool) (bytes : List ℕ) (p q : PlainP
       let other : DueBehind h a p g t = subst P (sym (one_program a p q has had)) e in
       let Q : Option Status → Type 0 = λ r. DueAfter r h a p g t in
       let same : d.0 ≡ other.0 = first_one plans_one a p (stages_of a.mode) d.0 other.0 d.1 other.1 in
-      behind_one values_one line_one never_both h p a f g s t d.0 d.2 (subst Q (sym same) other.2)
+      behind_one values_one line_one never_both h p a plans_one met_once f g s t d.0 d.2 (subst Q (sym same) other.2)
 
   if_one : (b : Bool) (a : Asked) (f g : List JobFile) (s t : Status) → DueIf b h a f s → DueIf b h a g t → (s ≡ t) × (f ≡ g)
   if_one true a f g s t x y = of_one a f g s t x y

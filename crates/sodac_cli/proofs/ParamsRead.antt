@@ -22,7 +22,7 @@ use Rattle.job_status.specs.declared.status.Status.{Status}
 use Rattle.job_status.specs.declared.status.Status.TheVariants as is
 use Rattle.sodac_cli.specs.Correct.{Runs}
 use Rattle.sodac_cli.specs.Due.{MayAsk, accepted, asks_params, bad_params}
-use Rattle.sodac_cli.specs.Journal.{ReadsFew}
+use Rattle.sodac_cli.specs.Journal.{ReadsFew, in_order}
 use Rattle.sodac_cli.specs.Machine.Steps.{HasAsked, IsJudged, IsRead, IsSettled}
 use Rattle.sodac_cli.specs.Machine.Text.{HasLines, unread_lines}
 use Rattle.sodac_cli.specs.Work.{HasParamsBy, RefusesParams, RefusesParamsBy, if_given, params_file, program_file, text_count, texts_of}
@@ -56,15 +56,14 @@ module _ (first : ℕ) (begun : Store) (a : Asked) (p : PlainProgram) (judged : 
         (record {
           ended = ended;
           places = places;
-          progress = progress;
+          went = in_order progress (λ e. absurd (cc));
           few = few;
-          all = λ e. absurd (cc);
           program = λ ne. omega (arith, some);
-          texts = λ ne also.
+          texts = λ ne also more.
               let other : line ≢ 0 = λ e. also (ap (λ (l : ℕ). is.Array (of.Params l)) e) in
               omega (arith, all other, texts_alone a);
         })
-        (λ e. absurd (cc))
+        (λ e. absurd (cc)) (λ k f e. absurd (cc))
 
 -- no params file is given
 module _ (first : ℕ) (begun : Store) (a : Asked) (p : PlainProgram) (ungiven : a.params ≡ None) (judged : IsJudged begun.bytes a p) (given : ℕ) (now : Store)
@@ -160,7 +159,7 @@ module _ (first : ℕ) (begun : Store) (a : Asked) (p : PlainProgram) (name : Li
             there = lines_left ∙ ap (λ (bytes : List ℕ). Some bytes) (sym whole);
             asked = record {
               places = m.0;
-              few = few_params a w.asked.places m.0 w.asked.few (w.asked.places 1 + length v.items) m.1 (omega (arith, unread, short));
+              few = few_params a w.asked.places m.0 w.asked.few two (w.asked.places 1 + length v.items) m.1 (omega (arith, unread, short));
               progress = subst P two (all_asked 2 m.0 m.2);
             };
             keeps = keeps_now;
@@ -171,15 +170,15 @@ module _ (first : ℕ) (begun : Store) (a : Asked) (p : PlainProgram) (name : Li
           let unread : w.asked.places 1 ≡ 0 = w.asked.progress.well.unasked 1 (omega arith) in
           let P : Option (List ℕ) → Type 0 = λ o. RefusesParamsBy o begun.bytes p 0 in
           texts_refused first begun a p judged given now keeps_now 1 m.0
-          (few_params a w.asked.places m.0 w.asked.few (w.asked.places 1 + (most_params + 1)) m.1 (omega (arith, unread))) (all_asked 1 m.0 m.2) (omega arith) 0
+          (few_params a w.asked.places m.0 w.asked.few two (w.asked.places 1 + (most_params + 1)) m.1 (omega (arith, unread))) (all_asked 1 m.0 m.2) (omega arith) 0
           (subst P (sym named) (left mid id, lines_left, too_long (long refl))) (λ ne. absurd (ne refl))
       lines_end read.Failed m long =
           let unread : w.asked.places 1 ≡ 0 = w.asked.progress.well.unasked 1 (omega arith) in
           runs_fault first begun a given now judged.built (leaves_stuck first begun a given now keeps_now both 1 m.0 refl 1 m.4) both may 1 m.0
-          (few_params a w.asked.places m.0 w.asked.few m.1 m.3 (omega (arith, unread, m.2))) Params 1 refl m.4
+          (few_params a w.asked.places m.0 w.asked.few two m.1 m.3 (omega (arith, unread, m.2))) Params 1 refl m.4
       lines_end read.Memory m long =
           let unread : w.asked.places 1 ≡ 0 = w.asked.progress.well.unasked 1 (omega arith) in
-          texts_memory first begun a p judged given now keeps_now 1 m.0 (few_params a w.asked.places m.0 w.asked.few m.1 m.3 (omega (arith, unread, m.2)))
+          texts_memory first begun a p judged given now keeps_now 1 m.0 (few_params a w.asked.places m.0 w.asked.few two m.1 m.3 (omega (arith, unread, m.2)))
           (all_asked 1 m.0 m.4)
 
 -- what the call that opens the params file did, and the one that reads it, for every job

@@ -26,13 +26,15 @@ use Rattle.job_files.proofs.CallerLemmas.{id_opened, whole_left}
 use Rattle.command_words.specs.Orders.{Asked}
 use Rattle.job_status.specs.declared.status.Status.{Status}
 use Rattle.job_status.specs.declared.status.Status.TheVariants as is
+use Rattle.array_bytes.specs.declared.fault.CellFault.{CellFault}
+use Rattle.job_status.specs.declared.status.ArrayFault.TheVariants as of
 use Rattle.sodac_cli.specs.Correct.{Runs}
 use Rattle.sodac_cli.specs.Due.{DueOf, asks_none, asks_program, refused}
 use Rattle.job_status.specs.Endings.{due, ending_of}
-use Rattle.sodac_cli.specs.Journal.{AsksAll, ReadsFew}
+use Rattle.sodac_cli.specs.Journal.{AsksAll, ReadsFew, in_order}
 use Rattle.sodac_cli.specs.Machine.Steps.{IsRead}
 use Rattle.sodac_cli.specs.Machine.Text.{HasText, unread_status}
-use Rattle.sodac_cli.specs.Outputs.{Delivers, Leaves}
+use Rattle.sodac_cli.specs.Outputs.{Delivers, DeliversAtEnd, Leaves}
 use Rattle.sodac_cli.specs.Work.{is_built, program_file, program_of}
 use Rattle.sodac_cli.proofs.Begun.{leaves_asked, leaves_stuck, runs_due, runs_fault, runs_memory}
 use Rattle.sodac_cli.proofs.Few.{few_none, few_program}
@@ -127,13 +129,12 @@ module _ (first : ℕ) (begun : Store) (name : List ℕ) (before : ℕ) (mid : S
           (record {
             ended = 0;
             places = m.0;
-            progress = m.2;
+            went = in_order m.2 (λ e. absurd (cc));
             few = few_program a m.0 (0 + (most_text + 1)) m.1 (omega arith);
-            all = λ e. absurd (cc);
             program = λ ne. absurd (ne refl);
-            texts = λ ne also. absurd (ne refl);
+            texts = λ ne also more. absurd (ne refl);
           })
-          (λ e. absurd (cc))
+          (λ e. absurd (cc)) (λ k f e. absurd (cc))
       text_ends (Err read.Failed) reads long = λ a named built.
           let m = reads_program (Err read.Failed) reads a named in
           runs_fault first begun a given now built (leaves_stuck first begun a given now keeps (program_file a ∷ []) 0 m.0 refl 0 m.4)
@@ -150,12 +151,14 @@ module _ (first : ℕ) (begun : Store) (a : Asked) (given : ℕ) (now : Store) (
   read_leaves = leaves_asked first begun a given now keeps (program_file a ∷ []) 1 places refl progress
 
   pub read_asks : (status : Status) → AsksAll first begun (Some a) given now status (program_file a ∷ [])
-  read_asks status = record { ended = 1; places = places; progress = progress; few = few; all = λ e. refl; program = λ ne. omega arith; texts = λ ne also. omega arith }
+  read_asks status = record { ended = 1; places = places; went = in_order progress (λ e. refl); few = few; program = λ ne. omega arith; texts = λ ne also more. omega arith }
 
   pub read_due : (status : Status) → ending_of status ≡ due → DueOf begun.bytes a (program_file a ∷ []) status
-      → (status ≡ is.Ok → Delivers begun.bytes now.bytes (Some a)) → Runs first begun (Some a) given now status
-  read_due status ending d delivered =
-      runs_due first begun a given now built read_leaves (program_file a ∷ []) status ending d (read_asks status) delivered
+      → (status ≡ is.Ok → Delivers begun.bytes now.bytes (Some a))
+      → ((k : ℕ) (f : CellFault) → status ≡ is.Array (of.Cell k f) → DeliversAtEnd begun.bytes now.bytes (Some a))
+      → Runs first begun (Some a) given now status
+  read_due status ending d delivered at_end =
+      runs_due first begun a given now built read_leaves (program_file a ∷ []) status ending d (read_asks status) delivered at_end
 
   pub read_memory : Runs first begun (Some a) given now is.Memory
   read_memory = runs_memory first begun a given now built read_leaves (program_file a ∷ []) (asks_program refl) 1 places few progress
@@ -168,7 +171,7 @@ module _ (first : ℕ) (begun : Store) (a : Asked) (given : ℕ) (now : Store) (
 
   pub refused_runs : is_built a ≡ true → (r : Refusal) → RefusesProgram most_text a.share bytes r → Runs first begun (Some a) given now (is.Program r)
   refused_runs built r refuses = read_due first begun a given now built w.keeps w.places w.few w.progress (is.Program r) refl
-      (refused bytes r there refuses refl refl) (λ e. absurd (cc))
+      (refused bytes r there refuses refl refl) (λ e. absurd (cc)) (λ k f e. absurd (cc))
 
   pub text_read : (p : PlainProgram) → SpeaksOf most_text a.share bytes p → IsRead first begun a p given now
   text_read p spoken = record {

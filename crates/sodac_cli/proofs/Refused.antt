@@ -10,6 +10,8 @@ use Rattle.net_build.specs.Planned.{plan_of}
 use Rattle.command_words.specs.Orders.{Asked}
 use Rattle.job_status.specs.declared.status.Status.{Status}
 use Rattle.job_status.specs.declared.status.Status.TheVariants as is
+use Rattle.array_bytes.specs.declared.fault.CellFault.{CellFault}
+use Rattle.job_status.specs.declared.status.ArrayFault.TheVariants as of
 use Rattle.sodac_cli.specs.Correct.{Runs}
 use Rattle.job_status.specs.Counts.{FileFaults, FileFaultsBy}
 use Rattle.sodac_cli.specs.Allowed.{AllowsPlain}
@@ -24,6 +26,7 @@ use Rattle.sodac_cli.proofs.Reading.{read_due}
 record IsRefusal (s : Status) : Type 0 where
   ending : ending_of s ≡ due
   not_ok : s ≢ is.Ok
+  not_cell : (k : ℕ) (f : CellFault) → s ≢ is.Array (of.Cell k f)
   allowed : AllowsPlain s
 
 by_test : (b : Bool) (r s : Status) → IsRefusal r → (if b then None else Some r) ≡ Some s → IsRefusal s
@@ -32,14 +35,14 @@ by_test false r s refusal e = subst IsRefusal (same_Some r s e) refusal
 
 by_passed : (o : Option (LimitKind × ℕ)) (s : Status) → option_map limit_status o ≡ Some s → IsRefusal s
 by_passed None s e = absurd (cc)
-by_passed (Some l) s e = subst IsRefusal (same_Some (limit_status l) s e) (record { ending = refl; not_ok = λ x. absurd (cc); allowed = tt })
+by_passed (Some l) s e = subst IsRefusal (same_Some (limit_status l) s e) (record { ending = refl; not_ok = λ x. absurd (cc); not_cell = λ k f x. absurd (cc); allowed = tt })
 
 by_limit : (o : Option Refusal) (s : Status) → option_map (λ r. is.Program r) o ≡ Some s → IsRefusal s
 by_limit None s e = absurd (cc)
-by_limit (Some r) s e = subst IsRefusal (same_Some (is.Program r) s e) (record { ending = refl; not_ok = λ x. absurd (cc); allowed = tt })
+by_limit (Some r) s e = subst IsRefusal (same_Some (is.Program r) s e) (record { ending = refl; not_ok = λ x. absurd (cc); not_cell = λ k f x. absurd (cc); allowed = tt })
 
 at_stage : (stage : Stage) (a : Asked) (p : PlainProgram) (s : Status) → RefusalAt stage a p (Some s) → IsRefusal s
-at_stage by_names a p s e = by_test (names_fit a p) is.Usage s (record { ending = refl; not_ok = λ x. absurd (cc); allowed = tt }) (sym e)
+at_stage by_names a p s e = by_test (names_fit a p) is.Usage s (record { ending = refl; not_ok = λ x. absurd (cc); not_cell = λ k f x. absurd (cc); allowed = tt }) (sym e)
 at_stage by_network a p s x = by_passed (limit_passed (plan_of p x.0)) s (sym x.2)
 at_stage by_limits a p s e = by_limit (passed_limit p (rows_of a)) s (sym e)
 
@@ -63,7 +66,7 @@ module _ (a : Asked) (p : PlainProgram) (s : Status) (some : RefusalOf a p (Some
       → Runs first begun (Some a) given now s
   refused_runs first begun given now built w =
       read_due first begun a given now built w.keeps w.asked.places w.asked.few w.asked.progress s refusal.ending
-      (accepted p w.program (due_refused begun.bytes a p (program_file a ∷ []) s some refl)) (λ e. absurd (refusal.not_ok e))
+      (accepted p w.program (due_refused begun.bytes a p (program_file a ∷ []) s some refl)) (λ e. absurd (refusal.not_ok e)) (λ k f e. absurd (refusal.not_cell k f e))
 
   pub refused_faults : (n : ℕ) → FileFaults n n s
   refused_faults n = let P : Ending → Type 0 = λ e. FileFaultsBy e n n in subst P (sym refusal.ending) refl

@@ -81,7 +81,7 @@ module _ (first : ℕ) (begun : Store) (a : Asked) (p : PlainProgram) (values : 
   are_prefixes outputs prefixes =
       let P : Product → Type 0 = λ m. AreTextsBy m begun.bytes a p texts in
       let own : AreTexts begun.bytes a p texts = subst P (sym w.judged.arrays) (values, w.params, inputs, w.inputs, refl) in
-      inr (record { plain = p; program = w.judged.program; prefixes = inr (texts, own, prefixes) })
+      inr (record { plain = p; program = w.judged.program; prefixes = inr (inl (texts, own, prefixes)) })
 
   are : AreOutputs begun.bytes (Some a) (filled names texts count)
   are = are_prefixes (filled names texts count) (filled_prefixes names texts count (omega (arith, same_length)))

@@ -29,6 +29,21 @@ IsArrayFault (of.Cell number fault) = IsOfBytes fault
 IsArrayFault (of.Params line) = Unit {0}
 IsArrayFault (of.Stall line) = ⊥
 
+-- a role that a file of `sim` has
+abbrev pub IsOfSim : FileRole → Type 0
+IsOfSim Program = Unit {0}
+IsOfSim Params = Unit {0}
+IsOfSim Stall = Unit {0}
+IsOfSim (Input number) = Unit {0}
+IsOfSim (Output number) = Unit {0}
+IsOfSim Modules = ⊥
+
+-- what can be wrong with what the files of `sim` hold
+abbrev pub IsSimFault : ArrayFault → Type 0
+IsSimFault (of.Cell number fault) = IsOfBytes fault
+IsSimFault (of.Params line) = Unit {0}
+IsSimFault (of.Stall line) = Unit {0}
+
 -- what `check` and `plan` can end with: they are built for every program, and ask for the program's file alone
 abbrev pub AllowsPrinting : Status → Type 0
 AllowsPrinting is.Ok = Unit {0}
@@ -62,13 +77,24 @@ AllowsCompile is.OutFault = Unit {0}
 AllowsCompile is.Memory = Unit {0}
 AllowsCompile is.NotYetBuilt = ⊥
 
+-- what `sim` can end with: it is built for every program
+abbrev pub AllowsSim : Status → Type 0
+AllowsSim is.Ok = Unit {0}
+AllowsSim is.Usage = Unit {0}
+AllowsSim (is.Program r) = Unit {0}
+AllowsSim (is.Array fault) = IsSimFault fault
+AllowsSim (is.FileFault role) = IsOfSim role
+AllowsSim is.OutFault = Unit {0}
+AllowsSim is.Memory = Unit {0}
+AllowsSim is.NotYetBuilt = ⊥
+
 -- what a mode that is built can end with
 abbrev pub AllowsMode : Mode → Status → Type 0
 AllowsMode Check status = AllowsPrinting status
 AllowsMode Plain status = AllowsPlain status
 AllowsMode Plan status = AllowsPrinting status
 AllowsMode Compile status = AllowsCompile status
-AllowsMode Sim status = ⊥
+AllowsMode Sim status = AllowsSim status
 AllowsMode Selftest status = ⊥
 
 abbrev pub AllowsIf : Bool → Mode → Status → Type 0

@@ -6,7 +6,9 @@
 -- - printed: what `out` took;
 -- - line: what `err` took;
 -- - faults: the counts of the files and of `out`.
-use Rattle.std.specs.Prelude.{◌≡◌, ◌⊎◌, ℕ, List, Option, String}
+use Rattle.std.specs.Prelude.{◌≡◌, ◌⊎◌, ℕ, true, List, Option, Some, String}
+use Rattle.array_bytes.specs.declared.fault.CellFault.{CellFault}
+use Rattle.job_status.specs.declared.status.ArrayFault.TheVariants as of
 use Rattle.std.specs.Global.{Global}
 use Rattle.soda_io.specs.Store.{Store}
 use Rattle.job_files.specs.Contents.{Holding}
@@ -14,17 +16,22 @@ use Rattle.job_files.specs.Files.{JobFile}
 use Rattle.command_words.specs.Orders.{Asked}
 use Rattle.job_status.specs.declared.status.Status.{Status}
 use Rattle.job_status.specs.declared.status.Status.TheVariants as is
-use Rattle.sodac_cli.specs.Due.{Due, DueFor}
+use Rattle.sodac_cli.specs.Due.{Due, DueFor, MayRun}
 use Rattle.job_status.specs.Endings.{Ending, ending_of, due, file_fault, memory, out_fault}
 use Rattle.sodac_cli.specs.Journal.{Asks}
-use Rattle.sodac_cli.specs.Outputs.{Delivers, Leaves}
-use Rattle.sodac_cli.specs.Work.{asked_of}
+use Rattle.sodac_cli.specs.Outputs.{Delivers, DeliversAtEnd, DeliversBefore, Leaves}
+use Rattle.sodac_cli.specs.Work.{asked_of, is_built}
 
--- the status is due; a fault of `out` comes only where the job is else done
+-- a fault of `out` comes only where the job is else done; in a simulation, which prints as it runs, where it may run
+abbrev pub MayPrint : Holding → Option Asked → Type 0
+MayPrint h asked = ((files : List JobFile) × DueFor h asked files is.Ok)
+    ⊎ ((a : Asked) × (asked ≡ Some a) × (is_built a ≡ true) × (files : List JobFile) × MayRun h a files)
+
+-- the status is due
 abbrev pub IsDueBy : Ending → Holding → Option Asked → Status → Type 0
 IsDueBy due h asked status = (files : List JobFile) × DueFor h asked files status
 IsDueBy (file_fault role) h asked status = Unit {0}
-IsDueBy out_fault h asked status = (files : List JobFile) × DueFor h asked files is.Ok
+IsDueBy out_fault h asked status = MayPrint h asked
 IsDueBy memory h asked status = Unit {0}
 
 abbrev pub IsDue : Holding → List (String Global) → Status → Type 0
@@ -41,4 +48,6 @@ pub record Runs (first : ℕ) (begun : Store) (asked : Option Asked) (given : �
   pub journal : Asks first begun asked given now status
   pub files : Leaves begun now asked
   pub delivered : status ≡ is.Ok → Delivers begun.bytes now.bytes asked
-  pub whole : status ≡ is.OutFault → Delivers begun.bytes now.bytes asked
+  pub whole : status ≡ is.OutFault → DeliversBefore begun.bytes now.bytes asked
+  pub at_end : (number : ℕ) (fault : CellFault) → status ≡ is.Array (of.Cell number fault)
+      → DeliversAtEnd begun.bytes now.bytes asked

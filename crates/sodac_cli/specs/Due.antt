@@ -25,7 +25,9 @@ use Rattle.command_words.specs.Orders.{Asked}
 use Rattle.job_status.specs.declared.status.ArrayFault.TheVariants as of
 use Rattle.job_status.specs.declared.status.Status.{Status}
 use Rattle.job_status.specs.declared.status.Status.TheVariants as is
-use Rattle.sodac_cli.specs.Work.{HasFault, HasInputs, HasParams, HasProgram, Product, RefusesParams, array_files, asked_of, files_of, input_count, input_names, is_built, makes, module_file, modules_file, no_files, output_count, output_names, program_file, program_of, rows_of, text_names, texts_of}
+use Rattle.sim_lines.specs.declared.stall.Stall.{Stall as PlainStall}
+use Rattle.sodac_cli.specs.Simulated.{ComesTo, IsReadyToRun}
+use Rattle.sodac_cli.specs.Work.{HasFault, HasInputs, HasParams, HasProgram, HasStalls, Product, RefusesParams, RefusesStalls, array_files, asked_of, files_of, input_count, input_names, is_built, makes, module_file, modules_file, no_files, output_count, output_names, program_file, program_of, rows_of, sim_files_of, sim_texts_of, streamed_files, text_names, texts_of}
 
 -- none of these names stands before it, among `before` and the names themselves
 abbrev pub are_apart : List (List ℕ) → List (List ℕ) → Bool
@@ -76,14 +78,14 @@ FirstRefusal [] a p refusal = refusal ≡ None
 FirstRefusal (stage ∷ stages) a p refusal = (own : Option Status) × RefusalAt stage a p own
     × RefusalBehind own (FirstRefusal stages a p) refusal
 
--- the steps of a mode, in order: `check` and `plan` refuse no accepted program, and the steps of modes that aren't
--- built come with them
+-- the steps of a mode, in order: `check` and `plan` refuse no accepted program, and the steps of a mode that isn't built
+-- come with it
 abbrev pub stages_of : Mode → List Stage
 stages_of Check = []
 stages_of Plain = by_names ∷ by_limits ∷ []
 stages_of Plan = []
 stages_of Compile = by_network ∷ []
-stages_of Sim = []
+stages_of Sim = by_names ∷ by_network ∷ by_limits ∷ []
 stages_of Selftest = []
 
 -- the refusal of an accepted program, if it is refused
@@ -103,11 +105,23 @@ pub data DueWith (h : Holding) (a : Asked) (p : PlainProgram) (files : List JobF
   good_params : (values : List ℤ) → HasParams h a p values → files ≡ files_of a p → DueOver h a p status
       → DueWith h a p files status
 
+-- what is due of a simulation whose program no step refuses: refused params are told first, then refused stalls, and
+-- then what the run comes to
+pub data DueStreamed (h : Holding) (a : Asked) (p : PlainProgram) (files : List JobFile) (status : Status)
+    : Type 0 where
+  wrong_params : (line : ℕ) → RefusesParams h a p line → files ≡ texts_of a → status ≡ is.Array (of.Params line)
+      → DueStreamed h a p files status
+  wrong_stalls : (values : List ℤ) → HasParams h a p values → (line : ℕ) → RefusesStalls h a p line
+      → files ≡ sim_texts_of a → status ≡ is.Array (of.Stall line) → DueStreamed h a p files status
+  run : (delays : List ℕ) (values : List ℤ) (stalls : List PlainStall) → IsReadyToRun h a p delays values stalls
+      → files ≡ sim_files_of a p → ComesTo a p delays stalls h status → DueStreamed h a p files status
+
 -- what is due where no step refuses the program, by what the mode writes
 abbrev pub DueBy : Product → Holding → Asked → PlainProgram → List JobFile → Status → Type 0
 DueBy no_files h a p files status = (files ≡ program_file a ∷ []) × (status ≡ is.Ok)
 DueBy array_files h a p files status = DueWith h a p files status
 DueBy module_file h a p files status = (files ≡ program_file a ∷ modules_file a ∷ []) × (status ≡ is.Ok)
+DueBy streamed_files h a p files status = DueStreamed h a p files status
 
 -- what is due of an accepted program, and the files that are asked for until then, by its refusal
 abbrev pub DueAfter : Option Status → Holding → Asked → PlainProgram → List JobFile → Status → Type 0
@@ -137,9 +151,23 @@ DueFor h (Some a) files status = DueIf (is_built a) h a files status
 abbrev pub Due : Holding → List (String Global) → List JobFile → Status → Type 0
 Due h words files status = DueFor h (asked_of words) files status
 
+-- all files of a simulation are asked for, so that it may run: no step refuses its program, and params and stalls are
+-- good
+pub record MayRun (h : Holding) (a : Asked) (files : List JobFile) : Type 0 where
+  pub streams : makes a.mode ≡ streamed_files
+  pub plain : PlainProgram
+  pub program : HasProgram h a plain
+  pub pass : RefusalOf a plain None
+  pub delays : List ℕ
+  pub values : List ℤ
+  pub stalls : List PlainStall
+  pub ready : IsReadyToRun h a plain delays values stalls
+  pub all : files ≡ sim_files_of a plain
+
 -- files that a job may have asked for before a fault or want of memory: none, the program's, or, in a mode that writes
 -- arrays, once the program is accepted and no step refuses it, that of the params too, and once the params are good,
--- the first of all; in a mode that writes the text of a design, once no step refuses the program, the file of it too
+-- the first of all; in a simulation, once the params are good, that of the stalls too, and once they are good, the first
+-- of all; in a mode that writes the text of a design, once no step refuses the program, the file of it too
 pub data MayAsk (h : Holding) (a : Asked) (made : List JobFile) : Type 0 where
   asks_none : made ≡ [] → MayAsk h a made
   asks_program : made ≡ program_file a ∷ [] → MayAsk h a made
@@ -148,6 +176,13 @@ pub data MayAsk (h : Holding) (a : Asked) (made : List JobFile) : Type 0 where
   asks_arrays : makes a.mode ≡ array_files → (p : PlainProgram) → HasProgram h a p → RefusalOf a p None
       → (values : List ℤ) → HasParams h a p values → (rest : List JobFile) → files_of a p ≡ made ++ rest
       → MayAsk h a made
+  asks_first_texts : makes a.mode ≡ streamed_files → (p : PlainProgram) → HasProgram h a p → RefusalOf a p None
+      → made ≡ texts_of a → MayAsk h a made
+  asks_all_texts : makes a.mode ≡ streamed_files → (p : PlainProgram) → HasProgram h a p → RefusalOf a p None
+      → (values : List ℤ) → HasParams h a p values → made ≡ sim_texts_of a → MayAsk h a made
+  asks_streams : makes a.mode ≡ streamed_files → (p : PlainProgram) → HasProgram h a p → RefusalOf a p None
+      → (values : List ℤ) → HasParams h a p values → (stalls : List PlainStall) → HasStalls h a p stalls
+      → (rest : List JobFile) → sim_files_of a p ≡ made ++ rest → MayAsk h a made
   asks_module : makes a.mode ≡ module_file → (p : PlainProgram) → HasProgram h a p → RefusalOf a p None
       → made ≡ program_file a ∷ modules_file a ∷ [] → MayAsk h a made
 

@@ -1,4 +1,5 @@
 pub mod Work
+pub mod Simulated
 pub mod Due
 pub mod Journal
 pub mod Outputs

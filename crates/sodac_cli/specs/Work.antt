@@ -1,8 +1,9 @@
 -- What the words ask for: which of it is built, the files of the job, its params and arrays, and the bytes of its
 -- outputs.
 use Rattle.std.specs.Prelude.{◌≡◌, ◌≢◌, ℕ, zero, suc, ◌+◌, Bool, true, false, if◌then◌else◌, List, [], ◌∷◌, ◌++◌, map, length, take, drop, Option, Some, None, unwrap_or, ℤ, String, string_bytes}
+use Rattle.std.specs.List.{filter_map}
 use Rattle.std.specs.Global.{Global}
-use Rattle.soda_io.specs.declared.role.FileRole.TheVariants.{Program, Modules, Params, Input, Output}
+use Rattle.soda_io.specs.declared.role.FileRole.TheVariants.{Program, Modules, Params, Stall, Input, Output}
 use Rattle.soda_words.specs.IntType.{IntType}
 use Rattle.soda_words.specs.Limits.{most_text}
 use Rattle.soda_ir.specs.Program.{PlainProgram, input_types}
@@ -12,7 +13,10 @@ use Rattle.array_bytes.specs.Written.{array_bytes}
 use Rattle.array_bytes.specs.declared.fault.CellFault.{CellFault}
 use Rattle.array_bytes.specs.declared.form.Form.{Form}
 use Rattle.array_bytes.specs.declared.form.Form.TheVariants.{Raw, Text}
+use Rattle.param_lines.specs.Lines.{rows_of as words_of_lines}
 use Rattle.param_lines.specs.Params.{GivesParams, RefusesLine}
+use Rattle.sim_lines.specs.Stalls.{refused_line, stall_of}
+use Rattle.sim_lines.specs.declared.stall.Stall.{Stall as PlainStall}
 use Rattle.job_arrays.specs.Arrays.{IsFaulty, IsGood}
 use Rattle.job_program.specs.Spoken.{SpeaksOf}
 use Rattle.job_files.specs.Contents.{Holding}
@@ -40,14 +44,16 @@ pub data Product : Type 0 where
   no_files : Product
   array_files : Product
   module_file : Product
+  streamed_files : Product
 
--- what each mode writes: nothing, the arrays of its outputs, or the text of its modules
+-- what each mode writes: nothing, the arrays of its outputs, evaluated as a whole or streamed by a simulation, or the
+-- text of its modules
 abbrev pub makes : Mode → Product
 makes Check = no_files
 makes Plain = array_files
 makes Plan = no_files
 makes Compile = module_file
-makes Sim = array_files
+makes Sim = streamed_files
 makes Selftest = no_files
 
 -- all that is asked for is built
@@ -109,6 +115,9 @@ program_file a = record { role = Program; opened = true; name = program_of a }
 abbrev pub params_file : List ℕ → JobFile
 params_file name = record { role = Params; opened = true; name = name }
 
+abbrev pub stall_file : List ℕ → JobFile
+stall_file name = record { role = Stall; opened = true; name = name }
+
 -- the file that the text of a design is written to
 abbrev pub modules_file : Asked → JobFile
 modules_file a = record { role = Modules; opened = false; name = target_of a }
@@ -123,6 +132,17 @@ text_count a = 1 + length (if_given a.params)
 -- the files of a job that writes arrays, in order; the number of inputs is the program's
 abbrev pub files_of : Asked → PlainProgram → List JobFile
 files_of a p = texts_of a ++ (inputs_from 0 (input_names a p) ++ outputs_from 0 (output_names a p))
+
+-- the texts of a simulation, in order: the stalls are the last where they are given
+abbrev pub sim_texts_of : Asked → List JobFile
+sim_texts_of a = texts_of a ++ map stall_file (if_given a.stall)
+
+abbrev pub sim_text_count : Asked → ℕ
+sim_text_count a = text_count a + length (if_given a.stall)
+
+-- the files of a simulation, in order
+abbrev pub sim_files_of : Asked → PlainProgram → List JobFile
+sim_files_of a p = sim_texts_of a ++ (inputs_from 0 (input_names a p) ++ outputs_from 0 (output_names a p))
 
 -- the program's file holds a text, and p is the program spoken of: that of the text, shared where that is asked for
 pub record HasProgram (h : Holding) (a : Asked) (p : PlainProgram) : Type 0 where
@@ -145,6 +165,23 @@ RefusesParamsBy (Some name) h p line = (bytes : List ℕ) × (h name ≡ Some by
 
 abbrev pub RefusesParams : Holding → Asked → PlainProgram → ℕ → Type 0
 RefusesParams h a p line = RefusesParamsBy a.params h p line
+
+-- these are the stalls that the stall file lists, in its order; there are none where there is no such file
+abbrev pub HasStallsBy : Option (List ℕ) → Holding → PlainProgram → List PlainStall → Type 0
+HasStallsBy None h p stalls = stalls ≡ []
+HasStallsBy (Some name) h p stalls = (bytes : List ℕ) × (h name ≡ Some bytes) × (refused_line p bytes ≡ None)
+    × (stalls ≡ filter_map (stall_of p) (words_of_lines bytes))
+
+abbrev pub HasStalls : Holding → Asked → PlainProgram → List PlainStall → Type 0
+HasStalls h a p stalls = HasStallsBy a.stall h p stalls
+
+-- the stall file is refused at this line
+abbrev pub RefusesStallsBy : Option (List ℕ) → Holding → PlainProgram → ℕ → Type 0
+RefusesStallsBy None h p line = ⊥
+RefusesStallsBy (Some name) h p line = (bytes : List ℕ) × (h name ≡ Some bytes) × (refused_line p bytes ≡ Some line)
+
+abbrev pub RefusesStalls : Holding → Asked → PlainProgram → ℕ → Type 0
+RefusesStalls h a p line = RefusesStallsBy a.stall h p line
 
 -- the name holds an array of n cells of the type, without a fault
 pub record HoldsCells (h : Holding) (form : Form) (n : ℕ) (ty : IntType) (name : List ℕ) (cells : List ℤ) : Type 0 where
@@ -207,12 +244,14 @@ abbrev pub output_texts : Asked → PlainProgram → List ℤ → List (List ℤ
 output_texts a p params arrays =
     texts_from (form_of a) (run_of p) (output_types p.tensors) (defined_arrays p (rows_of a) params arrays)
 
--- these are texts of the files that a job writes, in order, by what it writes
+-- these are texts of the files that a job writes, in order, by what it writes; a simulation writes as it reads, and
+-- what it has written is said of all arrays that its inputs may still hold
 abbrev pub AreTextsBy : Product → Holding → Asked → PlainProgram → List (List ℕ) → Type 0
 AreTextsBy no_files h a p texts = texts ≡ []
 AreTextsBy array_files h a p texts = (values : List ℤ) × HasParams h a p values × (arrays : List (List ℤ))
     × HasInputs h a p arrays × (texts ≡ output_texts a p values arrays)
 AreTextsBy module_file h a p texts = (text : List ℕ) × IsModuleText p text × (texts ≡ text ∷ [])
+AreTextsBy streamed_files h a p texts = ⊥
 
 abbrev pub AreTexts : Holding → Asked → PlainProgram → List (List ℕ) → Type 0
 AreTexts h a p texts = AreTextsBy (makes a.mode) h a p texts

@@ -8,6 +8,7 @@ ghost use Rattle.job_status.specs.declared.status.Status.{Status as Ended};
 use flow_solve::least_plans_meet;
 use job_program::one_program_is_spoken_of;
 use param_lines::params_are_one;
+use sim_course::one_fault_is_met_first;
 
 /// No two statuses are due, and none over two lists of files.
 pub fn only_one_is_due()
@@ -16,5 +17,6 @@ pub fn only_one_is_due()
 {
     one_program_is_spoken_of();
     params_are_one();
+    one_fault_is_met_first();
     least_plans_meet()
 }

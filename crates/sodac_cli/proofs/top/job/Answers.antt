@@ -27,11 +27,11 @@ returns-in-Err-Usage-clause-runs g c = λ told.
 
 pub returns-in-Err-Usage-clause-prints : goal.returns-in-Err-Usage-clause-prints
 returns-in-Err-Usage-clause-prints g c = λ told also.
-    prints_nothing _ (asked_of c.args.words.now) _ is.Usage (λ e. absurd (cc)) (λ e. absurd (cc))
+    prints_nothing _ (asked_of c.args.words.now) _ is.Usage (λ e. absurd (cc)) (λ e. absurd (cc)) (λ k f e. absurd (cc))
 
 pub returns-in-Err-Memory-clause-runs : goal.returns-in-Err-Memory-clause-runs
 returns-in-Err-Memory-clause-runs g c = λ told. memory_unasked _ _ _
 
 pub returns-in-Err-Memory-clause-prints : goal.returns-in-Err-Memory-clause-prints
 returns-in-Err-Memory-clause-prints g c = λ told also.
-    prints_nothing _ (asked_of c.args.words.now) _ is.Memory (λ e. absurd (cc)) (λ e. absurd (cc))
+    prints_nothing _ (asked_of c.args.words.now) _ is.Memory (λ e. absurd (cc)) (λ e. absurd (cc)) (λ k f e. absurd (cc))
