@@ -19,7 +19,7 @@ use Rattle.cycle_sim.specs.declared.stations.Station.TheVariants as station
 use Rattle.cycle_sim.proofs.Moving.{begun_before}
 
 -- what a source was made for
-source_made : (c : Settings) (m v : ℕ) (s r : SourceStation) → source r.reads ≡ source s.reads → r.input ≡ s.input → r.lanes ≡ s.lanes
+pub source_made : (c : Settings) (m v : ℕ) (s r : SourceStation) → source r.reads ≡ source s.reads → r.input ≡ s.input → r.lanes ≡ s.lanes
     → IsSourceOf c m v s → IsSourceOf c m v r
 source_made c m v s r same input lanes is = record {
   input = input ∙ is.input;
@@ -33,7 +33,7 @@ source_made c m v s r same input lanes is = record {
 }
 
 -- what a sink was made for
-sink_made : (c : Settings) (m v : ℕ) (s r : SinkStation) → sink r.writes ≡ sink s.writes → r.output ≡ s.output → IsSinkOf c m v s → IsSinkOf c m v r
+pub sink_made : (c : Settings) (m v : ℕ) (s r : SinkStation) → sink r.writes ≡ sink s.writes → r.output ≡ s.output → IsSinkOf c m v s → IsSinkOf c m v r
 sink_made c m v s r same number is = record {
   lanes = is.lanes;
   number = number ∙ is.number;

@@ -20,7 +20,7 @@ use Rattle.cycle_sim.specs.declared.stations.Station.TheVariants as station
 use Rattle.cycle_sim.proofs.Moving.{begun_before, other, same_content, there}
 
 -- a source that is spared
-source_kept : (tells : Type 0) (given : ℕ) (old new : Store) (k : ℕ) (s : SourceStation) → (tells → Spares old new (read_id s))
+pub source_kept : (tells : Type 0) (given : ℕ) (old new : Store) (k : ℕ) (s : SourceStation) → (tells → Spares old new (read_id s))
     → SourceAt tells given old k s → SourceAt tells given new k s
 source_kept tells given old new k s spare at = record {
   known = at.known;
@@ -41,7 +41,7 @@ source_kept tells given old new k s spare at = record {
 module _ {U : Type 0} (tells : Type 0) (given : ℕ) (old new : Store) (before after : List (Station U)) (m : ℕ)
     (moves : Moves tells given old new before after m) where
   -- a sink that is spared
-  sink_kept : (c : Settings) (v k : ℕ) (s : SinkStation) → (tells → Spares old new (write_id s))
+  pub sink_kept : (c : Settings) (v k : ℕ) (s : SinkStation) → (tells → Spares old new (write_id s))
       → SinkAt tells c given old before v k s → SinkAt tells c given new after v k s
   sink_kept c v k s spare at = record {
     known = at.known;

@@ -3,9 +3,9 @@ use Rattle.std.proofs.Common.{◌≡◌, ℕ, ◌<◌, List, ◌++◌, Option, N
 use Rattle.std.proofs.lemmas.List.{get_or-map}
 use Rattle.std.proofs.lemmas.List.FromFn.{get_or-range_with_len, length-range_with_len}
 use Rattle.std.specs.List.{range_with_len}
-use Rattle.array_bytes.specs.Written.{begun}
+use Rattle.array_bytes.specs.Written.{array_bytes, begun}
 use Rattle.soda_io.specs.declared.error.IoErr.{IoErr}
-use Rattle.bursts.specs.Writers.{HasPut, IsPrefix, Output, Puts, output}
+use Rattle.bursts.specs.Writers.{Finishes, HasPut, IsPrefix, Output, Puts, output}
 use Rattle.bursts.specs.declared.writer.CellWriter.{CellWriter}
 use Rattle.file_modules.specs.Firings.{lane_of, lanes_of}
 
@@ -28,3 +28,15 @@ pub put_failed : (w : CellWriter) (o : Output) (had cells : List ℤ) (now : Opt
 put_failed w o had cells None e same h = absurd h
 put_failed w o had cells (Some bytes) e same h =
     (bytes, refl, subst (λ (q : Output). IsPrefix bytes (begun q.form q.ty q.run (had ++ cells))) same h)
+
+-- after finishing without an error the file is there, and whole
+pub was_finished : (o : Output) (had : List ℤ) (now : Option (List ℕ)) → Finishes o had now (Ok tt)
+    → now ≡ Some (array_bytes o.form o.ty o.run had)
+was_finished o had None h = absurd h
+was_finished o had (Some bytes) h = ap Some h
+
+-- after an error it is there, and holds a prefix
+pub finish_failed : (o : Output) (had : List ℤ) (now : Option (List ℕ)) (e : IoErr) → Finishes o had now (Err e)
+    → (more : List ℕ) × (now ≡ Some more) × IsPrefix more (array_bytes o.form o.ty o.run had)
+finish_failed o had None e h = absurd h
+finish_failed o had (Some bytes) e h = (bytes, refl, h)

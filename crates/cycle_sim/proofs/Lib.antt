@@ -8,10 +8,13 @@ pub mod Leaving
 pub mod Keeping
 pub mod Asked
 pub mod Touched
+pub mod GoingOn
 pub mod After
 pub mod Passing
 pub mod Stopping
 pub mod Types
+pub mod Finishing
+pub mod ReadingOut
 pub mod Run
 pub mod Beginning
 pub mod EndsOfRuns

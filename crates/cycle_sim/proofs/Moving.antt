@@ -13,7 +13,7 @@ use Rattle.bursts.specs.Readers.{kind}
 use Rattle.file_modules.specs.Firings.{cells_before}
 use Rattle.file_modules.specs.Modules.{Source, source}
 use Rattle.cycle_sim.specs.Settings.{Settings, net_in}
-use Rattle.cycle_sim.specs.Stations.{AreBegun, AreReady, StationAt, Units, good_in, id_of, read_id, station_at, was_read, write_id, written_by}
+use Rattle.cycle_sim.specs.Stations.{AreApart, AreBegun, AreReady, StationAt, Units, good_in, id_of, read_id, station_at, was_read, write_id, written_by}
 use Rattle.cycle_sim.specs.machine.Firings.{GoesOn, Moves, Spares, Touches}
 use Rattle.cycle_sim.specs.declared.stations.SourceStation.{SourceStation}
 use Rattle.cycle_sim.specs.declared.stations.Station.{Station}
@@ -88,6 +88,28 @@ module _ {U : Type 0} (tells : Type 0) (given : ℕ) (old new : Store) (before a
       ap (take (was_read s)) (sym (ap (cells_in (kind s.reads.reader)) (same_content old new (read_id s) spared))) ∙ begun n s now)
       (eqb_tells n m)
 
+module _ {U : Type 0} (tells : Type 0) (given : ℕ) (store : Store) (stations : List (Station U)) (apart : AreApart tells store stations)
+    (known_id : (n i : ℕ) → id_of (station_at stations n) ≡ Some i → i < given) where
+  -- a step of one module among the others
+  unfoldable pub moves : (m : ℕ) (is : Station U) (new : Store) (fails : Type 0) → m < length stations → GoesOn (station_at stations m) is
+      → (tells → Touches given store new (station_at stations m) is fails) → Moves tells given store new stations (slice_set stations m is) m
+  moves m is new fails lt on touch = record {
+    known = lt;
+    is = is;
+    set = refl;
+    on = on;
+    others = λ told n i ne e.
+        spared given store new (station_at stations m) is fails (touch told) i (known_id n i e)
+        (λ own. apart.ids m n i i (λ same. ne (sym same)) own e refl)
+        (λ j w. apart.names told m n j i (λ same. ne (sym same)) w e);
+    own = λ told i e. ((touch told).ids.name i (known_id m i e), (touch told).ids.opened i (known_id m i e));
+    read = λ told s was.
+        let id = known_id m (read_id s) (ap id_of was) in
+        ap (λ name. unwrap_or (new.bytes name) []) ((touch told).ids.name (read_id s) id)
+        ∙ ap (λ (b : Option (List ℕ)). unwrap_or b []) ((touch told).bytes (store.name (read_id s))
+        (λ j w. absurd (none-some j (sym (ap written_by was) ∙ w))));
+  }
+
 module _ {U : Type 0} (tells : Type 0) (units : Units U) (c : Settings) (given : ℕ) (store : Store) (stations : List (Station U)) (fired : List ℕ)
     (ready : AreReady tells units c given store stations fired) where
   known : (m : ℕ) (i : ℕ) (kind : Module) (k : ℕ) (a : Station U) → StationAt tells units c given store stations m k kind a → id_of a ≡ Some i → i < given
@@ -103,23 +125,3 @@ module _ {U : Type 0} (tells : Type 0) (units : Units U) (c : Settings) (given :
       (λ (lt : n < length stations). known n i (module_at (net_in c) n) (slice_index fired n) (station_at stations n) (ready.each n lt) e)
       (λ (le : length stations ≤ n). absurd (none-some i (sym (ap id_of (get_or_past stations n station.Forward le)) ∙ e)))
       (cases_lt n (length stations))
-
-  -- a firing among the others
-  unfoldable pub moves : (m : ℕ) (is : Station U) (new : Store) (fails : Type 0) → m < length stations → GoesOn (station_at stations m) is
-      → (tells → Touches given store new (station_at stations m) is fails) → Moves tells given store new stations (slice_set stations m is) m
-  moves m is new fails lt on touch = record {
-    known = lt;
-    is = is;
-    set = refl;
-    on = on;
-    others = λ told n i ne e.
-        spared given store new (station_at stations m) is fails (touch told) i (known_id n i e)
-        (λ own. ready.apart.ids m n i i (λ same. ne (sym same)) own e refl)
-        (λ j w. ready.apart.names told m n j i (λ same. ne (sym same)) w e);
-    own = λ told i e. ((touch told).ids.name i (known_id m i e), (touch told).ids.opened i (known_id m i e));
-    read = λ told s was.
-        let id = known_id m (read_id s) (ap id_of was) in
-        ap (λ name. unwrap_or (new.bytes name) []) ((touch told).ids.name (read_id s) id)
-        ∙ ap (λ (b : Option (List ℕ)). unwrap_or b []) ((touch told).bytes (store.name (read_id s))
-        (λ j w. absurd (none-some j (sym (ap written_by was) ∙ w))));
-  }

@@ -1,6 +1,5 @@
 -- A firing of one module of a run: what it leaves of the whole.
-use Rattle.std.proofs.Common.{◌≡◌, ℕ, ◌<◌, ◌≤◌, ◌^◌, Bool, true, false, List, Some, length, slice_index, slice_set, length-set, refl, sym, ap, subst, ◌∙◌, arith, ℤ}
-use Rattle.std.proofs.lemmas.Bool.{false≢true}
+use Rattle.std.proofs.Common.{◌≡◌, ℕ, ◌<◌, ◌≤◌, ◌^◌, Bool, true, false, List, length, slice_index, slice_set, length-set, refl, sym, ap, subst, ◌∙◌, arith, ℤ}
 use Rattle.int_types.specs.Ranges.{InRange}
 use Rattle.soda_io.specs.Store.{Store}
 use Rattle.net_ir.specs.Nets.{Net, entrances, exits}
@@ -12,7 +11,7 @@ use Rattle.staged_cells.specs.Cells.{type_at}
 use Rattle.staged_cells.specs.Streams.{cell_number, module_at, stage_cell}
 use Rattle.cycle_sim.specs.Settings.{AreInputs, IsSettings, Settings, net_in, plan_in, streams_over}
 use Rattle.cycle_sim.specs.Sends.{SendsBy, exit_lanes}
-use Rattle.cycle_sim.specs.Stations.{AgreesWith, AreBegun, AreReady, IsSinkOf, StationAt, Units, station_at, written_by}
+use Rattle.cycle_sim.specs.Stations.{AgreesWith, AreBegun, AreReady, IsSinkOf, StationAt, Units, station_at}
 use Rattle.cycle_sim.specs.Onward.{Onward}
 use Rattle.cycle_sim.specs.Stopped.{IsStopped}
 use Rattle.cycle_sim.specs.Using.{Ends, IsFailedCall}
@@ -22,8 +21,9 @@ use Rattle.cycle_sim.specs.declared.stations.SinkStation.{SinkStation}
 use Rattle.cycle_sim.specs.declared.stations.Station.{Station}
 use Rattle.cycle_sim.specs.declared.stations.Station.TheVariants as station
 use Rattle.cycle_sim.proofs.After.{HandsOn, station_after}
-use Rattle.cycle_sim.proofs.Asked.{ends_of, uses_of}
-use Rattle.cycle_sim.proofs.Keeping.{ids_stay, readers_stay, ready_after, writer_id, writers_stay}
+use Rattle.cycle_sim.proofs.Asked.{ends_of}
+use Rattle.cycle_sim.proofs.GoingOn.{onward_of}
+use Rattle.cycle_sim.proofs.Keeping.{ready_after}
 use Rattle.cycle_sim.proofs.Moving.{begun_before, known_id, moves}
 use Rattle.cycle_sim.proofs.Passing.{hands, may_fire, sends_by}
 use Rattle.cycle_sim.proofs.Stopping.{was_stopped}
@@ -67,7 +67,7 @@ module _ {U : Type 0} (tells : Type 0) (units : Units U) (c : Settings) (given :
 
     abbrev pub the_moves : Moves tells given old new stations after m
     the_moves =
-        moves tells units c given old stations fired ready m is new fails there_is (subst (λ b. GoesOn b is) (sym was) on)
+        moves tells given old stations ready.apart (known_id tells units c given old stations fired ready) m is new fails there_is (subst (λ b. GoesOn b is) (sym was) on)
         (λ told. subst (λ b. Touches given old new b is fails) (sym was) (touch told))
 
     touched : tells → Touches given old new (station_at stations m) is fails
@@ -87,25 +87,9 @@ module _ {U : Type 0} (tells : Type 0) (units : Units U) (c : Settings) (given :
     pub goes_onward : (p q : ℕ) (once now : Bool) → p ≤ q → (now ≡ false → (once ≡ false) × (q ≡ p)) → once ≡ false
         → (fails → now ≡ true) → Onward tells c c given given old new stations after p q once now
     unfolding moves
-    goes_onward p q once now later kept begins stops = record {
-      settings = refl;
-      given = refl;
-      faults = later;
-      kept = kept;
-      stays = λ e. absurd (false≢true (sym begins ∙ e));
-      ids = ids_stay tells given old new stations after m the_moves;
-      writers = writers_stay tells given old new stations after m the_moves;
-      readers = readers_stay tells given old new stations after m the_moves;
-      names = λ told. (touch told).ids;
-      bytes = λ told name spared.
-          (touch told).bytes name
-          (λ i writes.
-          let own : written_by (station_at stations m) ≡ Some i = ap written_by was ∙ writes in
-          spared m i (known_id tells units c given old stations fired ready m i
-          (writer_id tells given old new stations after m the_moves (station_at stations m) i own)) own);
-      uses = λ told. uses_of tells given old new stations after m the_moves fails (touched told) once now begins stops
-          (λ n i j ne e f. ready.apart.ids n m i j ne e f);
-    }
+    goes_onward p q once now later kept begins stops =
+        onward_of tells given old new stations after m the_moves fails touched ready.apart (known_id tells units c given old stations fired ready m)
+        c p q once now later kept begins stops
 
     module _ (ports sends : List ℤ) (found : (stream : ℕ → ℕ → ℤ) → AgreesWith tells c old stations stream → ports ≡ port_values net stream m k) where
       ports_are : tells → (inputs : List (List ℤ)) → AreInputs c inputs → AreBegun new after inputs

@@ -1,11 +1,12 @@
 -- What holds where a firing of a module was stopped.
-use Rattle.std.proofs.Common.{◌≡◌, ◌≢◌, ℕ, ◌+◌, ◌<◌, ◌≤◌, Bool, false, List, [], length, length-take, take, slice_index, Some, Err, refl, sym, ap, subst, ◌∙◌, arith, ℤ, ⊎_elim, append-nil}
+use Rattle.std.proofs.Common.{◌≡◌, ◌≢◌, ℕ, ◌+◌, ◌<◌, ◌≤◌, Bool, false, List, ◌++◌, append_assoc, length, take, drop, slice_index, Some, Err, refl, sym, ap, subst, ◌∙◌, ℤ, ⊎_elim}
 use Rattle.std.proofs.lemmas.Bool.Decides.{eqb_tells}
 use Rattle.std.proofs.lemmas.Bool.{cases_lt}
 use Rattle.std.proofs.lemmas.Option.{none-some}
-use Rattle.std.proofs.lemmas.List.{get_or_past, take-take}
+use Rattle.std.proofs.lemmas.List.{get_or_past, take-append-drop}
 use Rattle.soda_io.specs.Store.{Store, content}
-use Rattle.array_bytes.specs.Written.{begun}
+use Rattle.array_bytes.specs.Written.{array_bytes, begun, ending}
+use Rattle.bursts.proofs.CallerLemmas.{prefix_on}
 use Rattle.bursts.specs.Readers.{kind}
 use Rattle.bursts.specs.Writers.{HasPut, IsPrefix, Output, output}
 use Rattle.file_modules.specs.Firings.{cells_before}
@@ -33,25 +34,34 @@ use Rattle.cycle_sim.proofs.Moving.{begun_before, other, same_good, there}
 abbrev pub begun_by : Output → List ℤ → List ℕ
 begun_by o cells = begun o.form o.ty o.run cells
 
--- a file whose bytes begin with so many of these cells
+-- the bytes of an array
+abbrev pub array_by : Output → List ℤ → List ℕ
+array_by o cells = array_bytes o.form o.ty o.run cells
+
+-- a file that holds a prefix of the bytes of an array
 abbrev pub HoldsPart : Store → Output → (array : List ℤ) → Type 0
 HoldsPart store o array =
-    (count : ℕ) × (bytes : List ℕ) × (store.bytes (store.name o.id) ≡ Some bytes) × IsPrefix bytes (begun o.form o.ty o.run (take count array))
+    (bytes : List ℕ) × (store.bytes (store.name o.id) ≡ Some bytes) × IsPrefix bytes (array_by o array)
+
+-- a prefix of the bytes that begin with the first cells is one of all
+pub part_of : (o : Output) (array : List ℤ) (count : ℕ) (bytes : List ℕ) → IsPrefix bytes (begun_by o (take count array))
+    → IsPrefix bytes (array_by o array)
+unfolding array_bytes
+part_of o array count bytes p =
+    let more : IsPrefix bytes (begun_by o array) =
+    subst (λ xs. IsPrefix bytes (begun_by o xs)) (take-append-drop count array)
+    (prefix_on o.form o.ty o.run (take count array) (drop count array) bytes p) in
+    record {
+      rest = more.rest ++ ending o.form array;
+      same = ap (λ xs. xs ++ ending o.form array) more.same ∙ append_assoc bytes more.rest (ending o.form array);
+    }
 
 -- what a sink has put is one
-put_part : (store : Store) (s : SinkStation) (array : List ℤ) (count : ℕ) (bytes : List ℕ) → store.bytes (store.name (write_id s)) ≡ Some bytes
-    → HasPut s.writes.writer (take count array) bytes → HoldsPart store (output s.writes.writer) array
+pub put_part : (store : Store) (s : SinkStation) (array : List ℤ) (count : ℕ) (bytes : List ℕ)
+    → store.bytes (store.name (write_id s)) ≡ Some bytes → HasPut s.writes.writer (take count array) bytes
+    → HoldsPart store (output s.writes.writer) array
 put_part store s array count bytes is h =
-    let o : Output = output s.writes.writer in
-    let few : h.lags.there ≤ count = omega (arith, h.lags.all, length-take count array) in (
-      h.lags.there,
-      bytes,
-      is,
-      record {
-        rest = [];
-        same = sym (h.lags.written ∙ ap (begun o.form o.ty o.run) (take-take h.lags.there count array few)) ∙ sym (append-nil bytes);
-      },
-    )
+    (bytes, is, part_of (output s.writes.writer) array count bytes (record { rest = s.writes.writer.buffer.items; same = sym h.buffered }))
 
 module _ {U : Type 0} (tells : Type 0) (given : ℕ) (old new : Store) (before after : List (Station U)) (m k p q : ℕ)
     (moves : Moves tells given old new before after m) (ports : List ℤ) where
@@ -132,12 +142,13 @@ module _ {U : Type 0} (tells : Type 0) (given : ℕ) (old new : Store) (before a
         let had = at.3.put told inputs arrays (begun_before tells given old new before after m moves told inputs begun) in
         let more = h.1 told _ had.0 had.1 had.2 in
         let o : Output = output t.writes.writer in
+        let count : ℕ = cells_before c.program.unroll (slice_index c.delays at.0) (array_cells c) (k + 1) in
         let part : HoldsPart new o (array_over c inputs v) = (
-          cells_before c.program.unroll (slice_index c.delays at.0) (array_cells c) (k + 1),
           more.0,
           more.1,
-          subst (λ w. IsPrefix more.0 (begun_by o (take (cells_before c.program.unroll (slice_index c.delays at.0) (array_cells c) (k + 1)) (array_over c inputs w)))) same
-              (subst (λ xs. IsPrefix more.0 (begun_by o xs)) (hands at.0 t refl at.1 at.2 told inputs arrays begun) more.2),
+          subst (λ w. IsPrefix more.0 (array_by o (array_over c inputs w))) same
+              (part_of o (array_over c inputs at.0) count more.0
+              (subst (λ xs. IsPrefix more.0 (begun_by o xs)) (hands at.0 t refl at.1 at.2 told inputs arrays begun) more.2)),
         ) in
         let P : SinkStation → Type 0 = λ x. HoldsPart new (output x.writes.writer) (array_over c inputs v) in
         subst (λ a. OfSink a P) (sym on.1 ∙ is)

@@ -9,4 +9,6 @@ pub mod machine
 pub mod Running
 pub mod Fresh
 pub mod Ends
+pub mod Ending
+pub mod Unended
 pub mod Handles

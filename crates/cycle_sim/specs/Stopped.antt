@@ -1,11 +1,11 @@
 -- What stops a run, and what holds then.
-use Rattle.std.specs.Prelude.{◌≡◌, ℕ, ◌+◌, ◌≤◌, Bool, false, List, ℤ, length, take, Some}
+use Rattle.std.specs.Prelude.{◌≡◌, ℕ, ◌+◌, ◌≤◌, Bool, false, List, ℤ, length, Some}
 use Rattle.std.specs.Prelude.{Err}
 use Rattle.soda_io.specs.Cause.{Rose}
 use Rattle.soda_io.specs.Store.{Store, content}
 use Rattle.soda_io.specs.declared.error.IoErr.{IoErr}
 use Rattle.soda_io.specs.declared.error.IoErr.TheVariants as io
-use Rattle.array_bytes.specs.Written.{begun}
+use Rattle.array_bytes.specs.Written.{array_bytes}
 use Rattle.array_bytes.specs.declared.fault.CellFault.{CellFault}
 use Rattle.array_bytes.specs.declared.fault.CellFault.TheVariants as cell
 use Rattle.bursts.specs.Readers.{kind}
@@ -44,15 +44,14 @@ CauseIs tells old store stations before now m k (Output number error) =
     (s : SinkStation) × (station_at stations m ≡ station.Sink s) × (number ≡ s.output)
     × (error ≡ io.Failed → Rose before now) × (tells → Ends old store (write_id s) (error ≡ io.Failed))
 
--- The file of each output holds a prefix of the bytes that begin with its first cells, over all inputs that go on from
--- what was read.
+-- The file of each output holds a prefix of the bytes of its array, over all inputs that go on from what was read.
 abbrev pub HoldPrefixes : {U : Type 0} → Settings → Store → List (Station U) → Type 0
 HoldPrefixes c store stations =
     (m v : ℕ) (s : SinkStation) → station_at stations m ≡ station.Sink s → module_at (net_in c) m ≡ Sink v
-    → (inputs : List (List ℤ)) → AreInputs c inputs → AreBegun store stations inputs → (count : ℕ) × (bytes : List ℕ)
+    → (inputs : List (List ℤ)) → AreInputs c inputs → AreBegun store stations inputs → (bytes : List ℕ)
     × (store.bytes (store.name (write_id s)) ≡ Some bytes)
-    × IsPrefix bytes (begun (output s.writes.writer).form (output s.writes.writer).ty (output s.writes.writer).run
-    (take count (array_over c inputs v)))
+    × IsPrefix bytes (array_bytes (output s.writes.writer).form (output s.writes.writer).ty
+    (output s.writes.writer).run (array_over c inputs v))
 
 -- a run that wasn't stopped before, and was in a firing of module m
 pub record IsStopped {U : Type 0} (tells : Type 0) (c : Settings) (once : Bool) (old store : Store)

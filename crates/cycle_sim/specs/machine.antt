@@ -2,3 +2,4 @@
 pub mod Firings
 pub mod Asking
 pub mod Going
+pub mod Closing

@@ -1,6 +1,7 @@
 //! The network of a design, run cycle by cycle over files.
 #![tactic(auto)]
 
+mod closing;
 mod laws;
 mod making;
 mod path;

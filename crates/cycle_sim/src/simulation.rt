@@ -8,6 +8,7 @@ ghost use Rattle.net_ir.specs.CycleRun.{EndsWith, cycle, fired_among, held_among
 ghost use Rattle.net_cycles.specs.Between.{between, fired_once};
 ghost use Rattle.net_cycles.specs.Cycles.{FiresAt, HasRun};
 ghost use Rattle.net_cycles.specs.Holdings.{held_below, storage_below};
+ghost use Rattle.cycle_sim.specs.Ending.{AreEnding};
 ghost use Rattle.cycle_sim.specs.Fresh.{AreFresh};
 ghost use Rattle.cycle_sim.specs.Handles.{HaveHandles};
 ghost use Rattle.cycle_sim.specs.Onward.{Onward};
@@ -15,6 +16,7 @@ ghost use Rattle.cycle_sim.specs.Paths.{settings};
 ghost use Rattle.cycle_sim.specs.Running.{IsRun};
 ghost use Rattle.cycle_sim.specs.Settings.{IsSettings, array_cells, net_in, plan_in};
 ghost use Rattle.cycle_sim.specs.Stopped.{IsStopped};
+ghost use Rattle.cycle_sim.specs.Unended.{StopsEnding};
 
 use crate::laws::queues_of_a_run_have_room;
 use crate::path::FilePath;
@@ -133,6 +135,39 @@ impl<U: Unit> Simulation<U> {
     {
         firings_are_rounded_up();
         self.pipeline.cycle(&mut self.path, files, stalled)
+    }
+
+    /// Finishes the outputs' files, one after the other, and then reads each input to its end, where no firing is left.
+    pub fn end<F: Files>(&mut self, files: &mut F) -> Result<(), Stop>
+        requires going { self.old.path.stopped ≡ false }
+        requires run { IsRun F.tells (record { value = U.value; place = U.place; step = U.step; count = U.count })
+            (settings self.old.path) (F.given files.old) (F.store files.old) self.old.path.stations.items
+            self.old.pipeline }
+        requires finished { IsFinished self.old.pipeline.network self.old.pipeline.firings
+            (between self.old.pipeline.fired) }
+
+        // Each output's file is whole, and each input's has no fault.
+        ensures ended { OnOk result (AreEnding F.tells
+            (record { value = U.value; place = U.place; step = U.step; count = U.count }) (settings self.new.path)
+            (F.given files.new) (F.store files.new) self.new.path.stations.items self.old.pipeline.fired
+            (length self.new.path.stations.items) (length self.new.path.stations.items)) }
+        ensures kept { OnOk result (F.faults files.new ≡ F.faults files.old) }
+        ensures onward { Onward F.tells (settings self.old.path) (settings self.new.path) (F.given files.old)
+            (F.given files.new) (F.store files.old) (F.store files.new) self.old.path.stations.items
+            self.new.path.stations.items (F.faults files.old) (F.faults files.new) self.old.path.stopped
+            self.new.path.stopped }
+        ensures stopped { IfErr result (StopsEnding F.tells
+            (record { value = U.value; place = U.place; step = U.step; count = U.count }) (settings self.new.path)
+            (F.given files.new) self.old.path.stopped (F.store files.old) (F.store files.new)
+            self.new.path.stations.items self.old.pipeline.fired (F.faults files.old) (F.faults files.new)) }
+    {
+        match self.path.finish(files) {
+            Ok(()) => match self.path.end(files) {
+                Ok(()) => Ok(()),
+                Err(stop) => Err(stop),
+            },
+            Err(stop) => Err(stop),
+        }
     }
 
     /// Whether no module has a firing left. Then a run of cycles up to here has ended with its last one.

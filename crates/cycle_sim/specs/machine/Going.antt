@@ -4,7 +4,8 @@ use Rattle.soda_io.specs.Store.{Store}
 use Rattle.array_bytes.specs.declared.fault.CellFault.TheVariants as cell
 use Rattle.soda_io.specs.declared.error.IoErr.TheVariants as io
 use Rattle.cycle_sim.specs.Settings.{Settings}
-use Rattle.cycle_sim.specs.Stations.{read_id, write_id}
+use Rattle.cycle_sim.specs.Stations.{Units, read_id, write_id}
+use Rattle.cycle_sim.specs.Unended.{IsUnended, IsUnendedBy}
 use Rattle.cycle_sim.specs.Using.{Uses}
 use Rattle.cycle_sim.specs.machine.Asking.{ends_since, no_uses, uses_both}
 use Rattle.cycle_sim.specs.Onward.{Onward}
@@ -84,4 +85,28 @@ stopped_since {tells = tells} {x = x} {y = y} {store = store} {before = before} 
       (λ told. subst (Uses x y before mid once) s.begun (one.uses told)) s.cause;
   good = s.good;
   prefixes = s.prefixes;
+}
+
+-- a stop at an input's end is told from an earlier time
+unended_by_since : {U : Type 0} (tells : Type 0) (x y store : Store) (before mid stations : List (Station U)) (j : Bool) (p q r m : ℕ) (stop : Stop)
+    → p ≤ q → (tells → Uses x y before mid j false) → IsUnendedBy tells y store stations q r m stop → IsUnendedBy tells x store stations p r m stop
+unended_by_since tells x y store before mid stations j p q r m (Input input fault) le uses c = (
+  c.0,
+  c.1,
+  c.2,
+  c.3,
+  λ failed. omega (arith, c.4 failed),
+  λ told. ends_since x y store before mid j (read_id c.0) (fault ≡ cell.Failed) (uses told) (c.5 told),
+)
+unended_by_since tells x y store before mid stations j p q r m (Output output error) le uses c = c
+
+pub unended_since : {U : Type 0} {tells : Type 0} {units : Units U} {c d e : Settings} {given g h finished : ℕ} {x y store : Store}
+    {before mid stations : List (Station U)} {fired : List ℕ} {p q r m : ℕ} {once now : Bool} {stop : Stop}
+    → Onward tells c d g h x y before mid p q once now → IsUnended tells units e given now y store stations fired finished q r m stop
+    → IsUnended tells units e given once x store stations fired finished p r m stop
+unended_since {tells = tells} {x = x} {y = y} {store = store} {before = before} {mid = mid} {stations = stations} {p = p} {q = q} {r = r} {m = m} {once = once} {stop = stop} one s = record {
+  begun = (one.kept s.begun).0;
+  cause = unended_by_since tells x y store before mid stations once p q r m stop one.faults
+      (λ told. subst (Uses x y before mid once) s.begun (one.uses told)) s.cause;
+  others = s.others;
 }
