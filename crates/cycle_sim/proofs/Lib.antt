@@ -15,6 +15,7 @@ pub mod Stopping
 pub mod Types
 pub mod Finishing
 pub mod ReadingOut
+pub mod Cycling
 pub mod Run
 pub mod Beginning
 pub mod EndsOfRuns

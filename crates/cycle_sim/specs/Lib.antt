@@ -7,6 +7,7 @@ pub mod Onward
 pub mod Paths
 pub mod machine
 pub mod Running
+pub mod Stalled
 pub mod Fresh
 pub mod Ends
 pub mod Ending

@@ -5,6 +5,7 @@ mod closing;
 mod laws;
 mod making;
 mod path;
+mod running;
 mod simulation;
 mod stationing;
 mod stations;
