@@ -1,7 +1,8 @@
 -- The sources of a run stand in the order of their inputs, and each of its queues can hold something.
-use Rattle.std.proofs.Common.{◌≡◌, ℕ, zero, suc, ◌+◌, ◌<◌, ◌≤◌, List, ◌∷◌, ◌++◌, [], length, refl, sym, ap, subst, arith, ⊎_elim}
+use Rattle.std.proofs.Common.{◌≡◌, ℕ, zero, suc, ◌+◌, ◌-◌, ◌<◌, ◌≤◌, List, ◌∷◌, ◌++◌, [], length, refl, sym, ap, subst, arith, ⊎_elim}
 use Rattle.std.proofs.lemmas.Bool.{cases_lt}
 use Rattle.delay_net.specs.Sums.{sum_below}
+use Rattle.delay_net.proofs.CallerLemmas.{sum_below_more}
 use Rattle.net_ir.specs.Nets.{FitsOrder, IsNetwork, Net, queue_at}
 use Rattle.net_ir.specs.declared.network.Module.{Module}
 use Rattle.net_ir.specs.declared.network.Module.TheVariants.{Compute, Source}
@@ -12,15 +13,6 @@ use Rattle.net_shape.specs.declared.kinds.Kind.{Kind}
 use Rattle.net_shape.specs.declared.kinds.Kind.TheVariants.{Input, Inner, Output}
 use Rattle.net_shape.specs.machine.Places.{block_begin, place_of}
 use Rattle.net_shape.proofs.CallerLemmas.{number_is}
-
--- a sum over more numbers is no less, by what each further one adds
-sum_more : (v w : ℕ) (f : ℕ → ℕ) → v < w → sum_below v f + f v ≤ sum_below w f
-unfolding sum_below
-sum_more v zero f h = absurd (omega arith)
-sum_more v (suc w) f h =
-    ⊎_elim (λ lt. omega (arith, sum_more v w f lt))
-    (λ ge. let e : v ≡ w = omega arith in omega (arith, ap (λ k. sum_below k f + f k) e))
-    (cases_lt v w)
 
 module _ (p : Plan) where
   -- an input has a source in its block
@@ -39,21 +31,30 @@ module _ (p : Plan) where
   unfolding place_of
   source_place v = refl
 
-  blocks_rise : (v w : ℕ) → v < w → block_begin p v + length (block p v) ≤ block_begin p w
+  -- the block of a tensor ends before that of each later one begins
+  begins_rise : (v k n : ℕ) → n ≡ v + 1 + k → block_begin p v + length (block p v) ≤ block_begin p n
   unfolding block_begin
-  blocks_rise v w h = omega (arith, sum_more v w (λ x. length (block p x)) h)
+  begins_rise v zero n e =
+      let f : ℕ → ℕ = λ x. length (block p x) in
+      let here : n ≡ v + 1 = omega (arith, e) in
+      omega (arith, sum_below_more v f, ap (λ i. sum_below i f) here)
+  begins_rise v (suc k) n e =
+      let f : ℕ → ℕ = λ x. length (block p x) in
+      let here : n ≡ v + 1 + k + 1 = omega (arith, e) in
+      omega (arith, begins_rise v k (v + 1 + k) refl, sum_below_more (v + 1 + k) f, ap (λ i. sum_below i f) here)
 
   -- sources of later inputs have greater numbers
   pub sources_rise : 0 < p.unroll → (v w : ℕ) → IsThere p (Source v) → IsThere p (Source w) → v < w
       → number_of p (Source v) < number_of p (Source w)
   sources_rise lanes v w a b lt =
+      let later : w ≡ v + 1 + (w - (v + 1)) = omega (arith, lt) in
       omega (
         arith,
         number_is p lanes (Source v) a,
         number_is p lanes (Source w) b,
         source_place v,
         source_place w,
-        blocks_rise v w lt,
+        begins_rise v (w - (v + 1)) w later,
         has_source v a.1,
       )
 

@@ -1,5 +1,5 @@
 -- The reading of one more text.
-use Rattle.std.proofs.Common.{◌≡◌, ◌<◌, ℕ, ◌+◌, true, List, [], ◌∷◌, ◌++◌, length, unwrap_or, slice_get, Option, Some, Result, Ok, Err, IfOk, IsErrOf, refl, sym, ap, subst, ◌∙◌, arith, inl, inr}
+use Rattle.std.proofs.Common.{◌≡◌, ◌<◌, ℕ, ◌+◌, true, List, [], ◌∷◌, ◌++◌, length, unwrap_or, Option, Some, Result, Ok, Err, IfOk, IsErrOf, refl, sym, ap, subst, ◌∙◌, arith, inl, inr}
 use Rattle.std.proofs.lemmas.List.{length-append}
 use Rattle.std.specs.Global.{Global}
 use Rattle.std.specs.declared.vec.Vec.{Vec}
@@ -15,10 +15,6 @@ use Rattle.job_files.specs.Progress.{Progress}
 use Rattle.job_files.specs.Steps.{AsksNext, ReadsNext}
 use Rattle.job_files.proofs.CallerLemmas.{begin, id_opened, whole_left}
 use Rattle.job_texts.specs.Texts.{ReadsText}
-
-last_of : {A : Type 0} → (xs : List A) (x : A) → slice_get (xs ++ x ∷ []) (length xs) ≡ Some x
-last_of [] x = refl
-last_of (y ∷ ys) x = last_of ys x
 
 -- the text wasn't opened
 module _ (first : ℕ) (begun : Store) (files : List JobFile) (places : ℕ → ℕ) (before : ℕ) (old : Store) (f : JobFile)

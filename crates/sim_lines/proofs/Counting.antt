@@ -45,13 +45,14 @@ none_below : (n : ℕ) → count_below (has_stall []) n ≡ 0
 none_below zero = refl
 none_below (suc n) = omega (arith, none_below n)
 
-either_counted : (a b : Bool) → (if a || b then 1 else 0) ≤ (if a then 1 else 0) + (if b then 1 else 0)
-either_counted true b = omega arith
-either_counted false b = omega arith
-
 one_more : (s : Stall) (ss : List Stall) (n : ℕ) → count_below (has_stall (s ∷ ss)) n ≤ count_below (λ cycle. s.cycle == cycle) n + count_below (has_stall ss) n
 one_more s ss zero = omega arith
-one_more s ss (suc n) = omega (arith, one_more s ss n, either_counted (s.cycle == n) (has_stall ss n))
+one_more s ss (suc n) =
+    let now = elim (s.cycle == n) as (λ b. (if b || has_stall ss n then 1 else 0) ≤ (if b then 1 else 0) + (if has_stall ss n then 1 else 0)) [
+      | true ↦ omega arith
+      | false ↦ omega arith
+    ] in
+    omega (arith, one_more s ss n, now)
 
 not_yet : (k n : ℕ) → n ≤ k → count_below (λ cycle. k == cycle) n ≡ 0
 not_yet k zero h = refl
